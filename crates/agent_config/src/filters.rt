@@ -9,8 +9,9 @@ ghost use Rattle.agent_config.specs.Seen.{now_of};
 ghost use Rattle.agent_config.specs.Filters.{filter_of, globs_at, globs_in, globs_of, tag_globs_at};
 ghost use Rattle.agent_config.specs.Filters.{tag_globs_of};
 
+use crate::globs::read_glob;
+use crate::lists::texts_in;
 use crate::tables::value_at;
-use crate::texts::{read_glob, texts_in};
 use fixed_num::{OutOfMemory, Seq};
 use metric::{Glob, Text};
 use metric_filter::{Filter, FilterRules};

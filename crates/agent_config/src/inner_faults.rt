@@ -13,9 +13,9 @@ ghost use Rattle.agent_config.specs.Seen.{tables_view};
 use crate::adding::{Added, Findings};
 use crate::fault::{FaultKind, Wrong};
 use crate::inner::{Inner, InnerShape};
+use crate::lists::{tables_in, texts_in};
 use crate::spelled::Spelled;
 use crate::tables::value_at;
-use crate::texts::texts_in;
 use fixed_num::OutOfMemory;
 use proc_regex::is_pattern;
 use std::alloc::Global;
@@ -156,34 +156,6 @@ impl<'a> Findings<'a> {
         self.add_unless(is_there, Wrong::of_text(FaultKind::Missing, key, name))?;
         Ok(())
     }
-}
-
-/// The tables of a value that is a list of tables; None where it is none.
-pub(crate) fn tables_in<'a>(
-    alloc: Global,
-    value: &'a Value,
-) -> Result<Option<Vec<&'a Table>>, OutOfMemory>
-    ensures { IfOk result (λ tables. option_map (λ t. tables_view t.items) tables ≡ tables_in (view value.now)) }
-{
-    match value.as_array() {
-        Some(items) => tables_of(alloc, items.as_slice()),
-        None => Ok(None),
-    }
-}
-
-/// The tables of values; None where one is no table.
-fn tables_of<'a>(alloc: Global, values: &'a [Value]) -> Result<Option<Vec<&'a Table>>, OutOfMemory>
-    ensures { IfOk result (λ tables. option_map (λ t. tables_view t.items) tables
-        ≡ tables_of (items_view values.now)) }
-{
-    let mut tables = Vec::new(alloc);
-    for value in values {
-        match value.as_table() {
-            Some(table) => tables.push(table)?,
-            None => return Ok(None),
-        }
-    }
-    Ok(Some(tables))
 }
 
 /// Is there a value at a key? As a number.

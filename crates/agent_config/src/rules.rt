@@ -14,7 +14,7 @@ ghost use Rattle.agent_config.specs.Unless.{unless};
 ghost use Rattle.metric.specs.declared.glob.Element.{Element};
 
 use crate::filters::add_globs_in;
-use crate::inner_faults::tables_in;
+use crate::lists::tables_in;
 use crate::rows::text_or;
 use crate::tables::{table_at, value_at};
 use fixed_num::{OutOfMemory, Seq};

@@ -7,9 +7,10 @@ ghost use Rattle.agent_config.specs.Seen.{now_of};
 
 use crate::adding::{Added, Findings};
 use crate::fault::{FaultKind, Wrong};
+use crate::globs::read_glob;
+use crate::lists::texts_in;
 use crate::shapes::is_statistic;
 use crate::templates::read_template;
-use crate::texts::{read_glob, texts_in};
 use fixed_num::OutOfMemory;
 use std::alloc::Global;
 use toml::Value;

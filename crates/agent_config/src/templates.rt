@@ -5,8 +5,8 @@ ghost use Rattle.agent_config.specs.Faults.{template_in, texts_in};
 ghost use Rattle.agent_config.specs.Seen.{now_of};
 ghost use Rattle.agent_config.specs.Values.{templates_at, templates_in, templates_of};
 
+use crate::lists::texts_in;
 use crate::tables::value_at;
-use crate::texts::texts_in;
 use fixed_num::{OutOfMemory, Seq};
 use format_words::{Template, TemplateFault};
 use std::alloc::Global;

@@ -10,10 +10,10 @@ ghost use Rattle.agent_config.specs.Seen.{now_of};
 
 use crate::adding::{Added, Findings};
 use crate::fault::{FaultKind, Wrong};
+use crate::lists::texts_in;
 use crate::rows::is_counted;
 use crate::shapes::{Shape, TimeRow};
 use crate::spelled::Spelled;
-use crate::texts::texts_in;
 use crate::times::time_in;
 use toml::Value;
 

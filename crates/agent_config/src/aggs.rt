@@ -21,11 +21,7 @@ use toml::Table;
 impl OfPlugin for AggConf {
     ghost made_of = { agg_of };
 
-    fn of<'a>(
-        alloc: Global,
-        plugin: &Plugin<'a>,
-        empty: &'a Table,
-    ) -> Result<AggConf, OutOfMemory> {
+    fn of<'a>(alloc: Global, plugin: &Plugin<'a>, empty: &'a Table) -> Result<Self, OutOfMemory> {
         let keys = keys_of(&Class::Aggregators, plugin.name);
         let table = members_in(plugin.value, empty);
         let kind = kind_of(&Class::Aggregators, plugin.name);

@@ -91,11 +91,7 @@ fn add_global(
 impl OfPlugin for InputConf {
     ghost made_of = { input_of };
 
-    fn of<'a>(
-        alloc: Global,
-        plugin: &Plugin<'a>,
-        empty: &'a Table,
-    ) -> Result<InputConf, OutOfMemory> {
+    fn of<'a>(alloc: Global, plugin: &Plugin<'a>, empty: &'a Table) -> Result<Self, OutOfMemory> {
         let keys = keys_of(&Class::Inputs, plugin.name);
         let table = members_in(plugin.value, empty);
         Ok(InputConf {

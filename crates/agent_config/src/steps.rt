@@ -35,7 +35,7 @@ pub(crate) fn steps_of<'a>(
 impl OfPlugin for Step {
     ghost made_of = { step_of };
 
-    fn of<'a>(alloc: Global, plugin: &Plugin<'a>, empty: &'a Table) -> Result<Step, OutOfMemory> {
+    fn of<'a>(alloc: Global, plugin: &Plugin<'a>, empty: &'a Table) -> Result<Self, OutOfMemory> {
         let kind = kind_of(&Class::Processors, plugin.name);
         let table = members_in(plugin.value, empty);
         Ok(Step {

@@ -1,12 +1,12 @@
 //! Passes that add to one sum in threads, and look at it.
-ghost use Rattle.std.specs.Prelude.{◌≡◌, ℕ, ◌+◌, ◌<◌, ◌≤◌, ◌^◌, [], All, map, length, IfOk};
+ghost use Rattle.std.specs.Prelude.{◌≡◌, ℕ, ◌+◌, ◌<◌, ◌≤◌, ◌^◌, length, IfOk};
 ghost use Rattle.turnstile_scenarios.specs.Ended.{HasEnded};
 ghost use Rattle.turnstile_scenarios.specs.Adding.{is_added, added};
 
-use crate::jobs::{Job, Work, done, join_each, split_each};
+use crate::jobs::{Work, work_at};
 use crate::sum::Sum;
 use fixed_num::OutOfMemory;
-use std::alloc::{AllocError, Global};
+use std::alloc::Global;
 use std::sync::Wait;
 use std::thread;
 use std::thread::Threads;
@@ -137,28 +137,6 @@ impl Work<Sum> for Counter {
     }
 }
 
-/// Does each job at a sum in a thread of its own.
-fn run_each<T: Threads + Wait + Sync, W: Work<Sum> + Send>(
-    rt: &T,
-    stile: &Turnstile<Sum>,
-    jobs: Vec<Job<Sum, W>>,
-) -> Result<Vec<Job<Sum, W>>, AllocError>
-    requires { All (λ job. job.pass.table ≡ stile.now.table) jobs.items }
-    ensures numbers { IfOk result (λ ended. map (λ job. job.pass.view.number) ended.items
-        ≡ map (λ job. job.pass.view.number) jobs.items) }
-    ensures same_tables { IfOk result (λ ended. All (λ job. job.pass.table ≡ stile.now.table) ended.items) }
-{
-    let ended = thread::map_vec(
-        rt,
-        jobs,
-        &|job: Job<Sum, W>| -> Job<Sum, W>
-            requires { job.pass.table ≡ stile.now.table }
-            ensures { (result.pass.table ≡ job.pass.table) × (result.pass.view.number ≡ job.pass.view.number) }
-        { done(rt, stile, job) },
-    )?;
-    Ok(ended)
-}
-
 /// Lets passes of a sum that begins at 0, with so many dials, do these works, each in a thread of its own. The sum is
 /// then as one legal history of their calls leaves it. Where memory is short the works are let go.
 pub fn work_at_sum<T: Threads + Wait + Sync, W: Work<Sum> + Send>(
@@ -170,11 +148,5 @@ pub fn work_at_sum<T: Threads + Wait + Sync, W: Work<Sum> + Send>(
     requires { length works.items < 2 ^ 32 }
     ensures { IfOk result (λ r. HasEnded is_added added (record { total = 0 }) r.0) }
 {
-    let Ok((stile, mut first)) = Turnstile::new(alloc, Sum { total: 0 }, dials) else {
-        return Err(OutOfMemory);
-    };
-    let jobs = split_each(alloc, &stile, &mut first, works)?;
-    let jobs = run_each(rt, &stile, jobs)?;
-    let works = join_each(alloc, &stile, &mut first, jobs)?;
-    Ok((stile.close(first), works))
+    work_at(rt, alloc, Sum { total: 0 }, dials, works)
 }

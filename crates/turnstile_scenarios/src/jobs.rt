@@ -1,8 +1,12 @@
 //! Works that are done in threads of their own, each with a pass of its own, at any machine.
 ghost use Rattle.std.specs.Prelude.{◌≡◌, ℕ, ◌<◌, ◌^◌, [], All, map, length, IfOk, OnOk};
+ghost use Rattle.turnstile_scenarios.specs.Ended.{HasEnded};
 
+use fixed_num::OutOfMemory;
 use std::alloc::{AllocError, Global};
 use std::sync::Wait;
+use std::thread;
+use std::thread::Threads;
 use turnstile::{Machine, Pass, Turnstile};
 
 /// What is done with a pass.
@@ -58,6 +62,31 @@ pub fn done<T: Wait, M: Machine, W: Work<M>>(
     Job { work, pass }
 }
 
+/// Does each job in a thread of its own.
+fn run_each<T: Threads + Wait + Sync, M: Machine + Send, W: Work<M> + Send>(
+    rt: &T,
+    stile: &Turnstile<M>,
+    jobs: Vec<Job<M, W>>,
+) -> Result<Vec<Job<M, W>>, AllocError>
+where
+    M::Op: Send,
+    M::Answer: Send,
+    requires { All (λ job. job.pass.table ≡ stile.now.table) jobs.items }
+    ensures numbers { IfOk result (λ ended. map (λ job. job.pass.view.number) ended.items
+        ≡ map (λ job. job.pass.view.number) jobs.items) }
+    ensures same_tables { IfOk result (λ ended. All (λ job. job.pass.table ≡ stile.now.table) ended.items) }
+{
+    let ended = thread::map_vec(
+        rt,
+        jobs,
+        &|job: Job<M, W>| -> Job<M, W>
+            requires { job.pass.table ≡ stile.now.table }
+            ensures { (result.pass.table ≡ job.pass.table) × (result.pass.view.number ≡ job.pass.view.number) }
+        { done(rt, stile, job) },
+    )?;
+    Ok(ended)
+}
+
 /// Joins back each pass, and gives the works.
 pub fn join_each<M: Machine, W: Drop>(
     alloc: Global,
@@ -79,4 +108,29 @@ pub fn join_each<M: Machine, W: Drop>(
         works.push(work)?;
     }
     Ok(works)
+}
+
+/// Lets passes of a machine, with so many dials, do these works, each in a thread of its own. The machine is then as one
+/// legal history of their calls leaves it. Where memory is short the works are let go, and the machine.
+pub fn work_at<T: Threads + Wait + Sync, M: Machine + Send, W: Work<M> + Send>(
+    rt: &T,
+    alloc: Global,
+    machine: M,
+    dials: u32,
+    works: Vec<W>,
+) -> Result<(M, Vec<W>), OutOfMemory>
+where
+    M::Op: Send,
+    M::Answer: Send,
+    requires dials { (i : ℕ) → i < dials → M.dial_of machine i ≡ 0 }
+    requires few { length works.items < 2 ^ 32 }
+    ensures { IfOk result (λ r. HasEnded M.allows M.next machine r.0) }
+{
+    let Ok((stile, mut first)) = Turnstile::new(alloc, machine, dials) else {
+        return Err(OutOfMemory);
+    };
+    let jobs = split_each(alloc, &stile, &mut first, works)?;
+    let jobs = run_each(rt, &stile, jobs)?;
+    let works = join_each(alloc, &stile, &mut first, jobs)?;
+    Ok((stile.close(first), works))
 }

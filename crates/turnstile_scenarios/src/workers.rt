@@ -1,15 +1,14 @@
 //! Workers that put the numbers of their sources on one shelf.
-ghost use Rattle.std.specs.Prelude.{◌≡◌, ℕ, ◌<◌, ◌^◌, [], All, map, length, IfOk};
+ghost use Rattle.std.specs.Prelude.{◌≡◌, ℕ, ◌<◌, ◌^◌, [], length, IfOk};
 ghost use Rattle.turnstile_scenarios.specs.Ended.{HasEnded};
 ghost use Rattle.turnstile_scenarios.specs.Gained.{GainedPuts};
 ghost use Rattle.turnstile_scenarios.specs.Shelving.{shelf_allows, shelf_next};
 
-use crate::jobs::{Job, Work, done, join_each, split_each};
+use crate::jobs::{Work, work_at};
 use crate::shelf::{Answer, Op, Shelf};
 use fixed_num::OutOfMemory;
-use std::alloc::{AllocError, Global};
+use std::alloc::Global;
 use std::sync::Wait;
-use std::thread;
 use std::thread::Threads;
 use turnstile::{Pass, Turnstile};
 
@@ -52,28 +51,6 @@ impl<S: Source> Work<Shelf> for Putting<S> {
     }
 }
 
-/// Does each job at a shelf in a thread of its own.
-fn run_each<T: Threads + Wait + Sync, W: Work<Shelf> + Send>(
-    rt: &T,
-    stile: &Turnstile<Shelf>,
-    jobs: Vec<Job<Shelf, W>>,
-) -> Result<Vec<Job<Shelf, W>>, AllocError>
-    requires { All (λ job. job.pass.table ≡ stile.now.table) jobs.items }
-    ensures numbers { IfOk result (λ ended. map (λ job. job.pass.view.number) ended.items
-        ≡ map (λ job. job.pass.view.number) jobs.items) }
-    ensures same_tables { IfOk result (λ ended. All (λ job. job.pass.table ≡ stile.now.table) ended.items) }
-{
-    let ended = thread::map_vec(
-        rt,
-        jobs,
-        &|job: Job<Shelf, W>| -> Job<Shelf, W>
-            requires { job.pass.table ≡ stile.now.table }
-            ensures { (result.pass.table ≡ job.pass.table) × (result.pass.view.number ≡ job.pass.view.number) }
-        { done(rt, stile, job) },
-    )?;
-    Ok(ended)
-}
-
 /// Lets passes of an empty shelf do these works, each in a thread of its own. The shelf is then as one legal history of
 /// their calls leaves it. Where memory is short the works are let go, and the shelf.
 pub fn work_at_shelf<T: Threads + Wait + Sync, W: Work<Shelf> + Send>(
@@ -84,11 +61,5 @@ pub fn work_at_shelf<T: Threads + Wait + Sync, W: Work<Shelf> + Send>(
     requires { length works.items < 2 ^ 32 }
     ensures { IfOk result (λ r. HasEnded shelf_allows shelf_next (record { items = []; taken = 0 }) r.0) }
 {
-    let Ok((stile, mut first)) = Turnstile::new(alloc, Shelf::new(alloc), 1) else {
-        return Err(OutOfMemory);
-    };
-    let jobs = split_each(alloc, &stile, &mut first, works)?;
-    let jobs = run_each(rt, &stile, jobs)?;
-    let works = join_each(alloc, &stile, &mut first, jobs)?;
-    Ok((stile.close(first), works))
+    work_at(rt, alloc, Shelf::new(alloc), 1, works)
 }

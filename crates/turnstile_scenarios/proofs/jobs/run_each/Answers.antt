@@ -1,6 +1,6 @@
 use Rattle.std.proofs.Common.{◌≡◌, ℕ, ◌<◌, length, slice_index_or, rules}
 use Rattle.turnstile_scenarios.proofs.JobLemmas.{same_numbers}
-use Rattle.turnstile_scenarios.proofs.adders.run_each.Goals as goal
+use Rattle.turnstile_scenarios.proofs.jobs.run_each.Goals as goal
 
 pub returns-clause-numbers : goal.returns-clause-numbers
 returns-clause-numbers g c =

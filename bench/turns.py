@@ -97,7 +97,7 @@ def check_waiting(bounds, probe):
         os.close(writing)
         told = process.communicate()[0]
     after = resource.getrusage(resource.RUSAGE_CHILDREN)
-    if told != b"5 1\n":
+    if told != b"5 6\n":
         sys.exit("bench: the silent run printed %r" % told)
     seconds = after.ru_utime + after.ru_stime - before.ru_utime - before.ru_stime
     bounds.at_most("processor seconds while a pass waits for %.0f s" % SILENT, WAITING_PROCESSOR, seconds, "%.3f")

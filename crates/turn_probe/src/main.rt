@@ -1,14 +1,11 @@
 //! Shows how passes take turns. `turn_probe PASSES CALLS DIALS` lets so many passes, each in a thread of its own, make so
-//! many calls each, which add 1 to a sum, and prints the sum. `turn_probe silent` lets one pass read standard input to
-//! its end in a call, while another one waits for the turn to add 1, and prints how many bytes were read, and the sum.
-//! The status is 2 where the words are others, and 1 where memory was wanting or nothing can be printed.
+//! many calls each, which add 1 to a sum, and prints the sum. `turn_probe silent` lets one pass add how many bytes
+//! standard input has to its end, in a call, while another one waits for the turn to add 1, and prints the sum behind
+//! each. The status is 2 where the words are others, and 1 where memory was wanting or nothing can be printed.
 #![tactic(auto)]
 
 ghost use Rattle.std.specs.Prelude.{◌≡◌, ℕ, ◌<◌, ◌^◌, vec_len, length};
 
-mod listener;
-
-use listener::{Asked, Listener};
 use std::alloc::Global;
 use std::io::{Error, ErrorKind, Stdin};
 use std::process::ExitCode;
@@ -17,7 +14,7 @@ use std::thread::Threads;
 use std::time::{Clock, Duration};
 use std::{env, thread};
 use turnstile::{Pass, Turnstile};
-use turnstile_scenarios::{Adder, work_at_sum};
+use turnstile_scenarios::{Addend, Adder, Sum, work_at_sum};
 
 /// The pass that waits calls so many milliseconds after the other one.
 const LATER: u64 = 100;
@@ -38,46 +35,46 @@ fn sum_of<R: Threads + Wait + Sync>(
     Some(sum.total)
 }
 
-/// Calls the machine once.
-fn ask<R: Wait>(
+/// Adds to the sum once, and answers it.
+fn add<R: Wait>(
     rt: &R,
-    stile: &Turnstile<Listener>,
-    mut pass: Pass<Listener>,
-    asked: Asked,
-) -> (Pass<Listener>, u64)
+    stile: &Turnstile<Sum>,
+    mut pass: Pass<Sum>,
+    addend: Addend,
+) -> (Pass<Sum>, u64)
     requires { pass.table ≡ stile.now.table }
     ensures { (result.0.table ≡ pass.table) × (result.0.view.number ≡ pass.view.number) }
 {
-    let (answer, _) = stile.call(rt, &mut pass, asked);
-    (pass, answer)
+    let (sum, _) = stile.call(rt, &mut pass, addend);
+    (pass, sum)
 }
 
-/// One pass reads all of standard input in a call, and another one waits meanwhile to add 1. Answers how many bytes were
-/// read, and the sum; none where memory is wanting.
+/// One pass adds how many bytes all of standard input has, in a call, and another one waits meanwhile to add 1. Answers
+/// the sum behind each; none where memory is wanting.
 fn read_while_one_waits<R: Threads + Wait + Clock + Sync>(
     rt: &R,
     alloc: Global,
     input: Stdin,
 ) -> Option<(u64, u64)> {
-    let Ok((stile, mut first)) = Turnstile::new(alloc, Listener::new(input), 0) else {
+    let Ok((stile, mut first)) = Turnstile::new(alloc, Sum { total: 0 }, 0) else {
         return None;
     };
     let one = stile.split(&mut first);
     let two = stile.split(&mut first);
     let lent = &stile;
-    let ((_, read), (_, sum)) = thread::join(
+    let ((_, read), (_, more)) = thread::join(
         rt,
-        move || -> (Pass<Listener>, u64)
+        move || -> (Pass<Sum>, u64)
             requires { one.table ≡ lent.now.table }
-        { ask(rt, lent, one, Asked::Read) },
-        move || -> (Pass<Listener>, u64)
+        { add(rt, lent, one, Addend::BytesOf(input)) },
+        move || -> (Pass<Sum>, u64)
             requires { two.table ≡ lent.now.table }
         {
             thread::sleep(rt, Duration::from_millis(LATER));
-            ask(rt, lent, two, Asked::Add(1))
+            add(rt, lent, two, Addend::Number(1))
         },
     );
-    Some((read, sum))
+    Some((read, more))
 }
 
 /// A word as a number.
@@ -94,8 +91,8 @@ fn line_of<R: Threads + Wait + Clock + Sync>(
 ) -> Result<String, u8> {
     let line = match words {
         [word] if word.as_str() == "silent" => {
-            let (read, sum) = read_while_one_waits(rt, alloc, input).ok_or(1)?;
-            format!(in alloc; "{read} {sum}")
+            let (read, more) = read_while_one_waits(rt, alloc, input).ok_or(1)?;
+            format!(in alloc; "{read} {more}")
         }
         [passes, calls, dials] => {
             let passes = number_of(passes.as_str()).ok_or(2)?;

@@ -4,7 +4,7 @@ ghost use Rattle.turnstile_scenarios.specs.Ended.{HasEnded};
 ghost use Rattle.turnstile_scenarios.specs.Adding.{is_added, added};
 
 use crate::jobs::{Work, work_at};
-use crate::sum::Sum;
+use crate::sum::{Addend, Sum};
 use fixed_num::OutOfMemory;
 use std::alloc::Global;
 use std::sync::Wait;
@@ -24,7 +24,7 @@ fn add<R: Wait>(
     ensures { (result.table ≡ pass.table) × (result.view.number ≡ pass.view.number) }
 {
     for _ in 0..times {
-        stile.call(rt, &mut pass, n);
+        stile.call(rt, &mut pass, Addend::Number(n));
     }
     pass
 }
@@ -114,7 +114,7 @@ pub struct Adder {
 impl Work<Sum> for Adder {
     fn run<T: Wait>(&mut self, rt: &T, stile: &Turnstile<Sum>, pass: &mut Pass<Sum>) {
         for _ in 0..self.times {
-            stile.call(rt, pass, self.n);
+            stile.call(rt, pass, Addend::Number(self.n));
         }
     }
 }
@@ -129,7 +129,7 @@ pub struct Counter {
 impl Work<Sum> for Counter {
     fn run<T: Wait>(&mut self, rt: &T, stile: &Turnstile<Sum>, pass: &mut Pass<Sum>) {
         for _ in 0..self.times {
-            let (_, number) = stile.call(rt, pass, 1);
+            let (_, number) = stile.call(rt, pass, Addend::Number(1));
             if self.numbers.push(number).is_err() {
                 break;
             }

@@ -1,6 +1,6 @@
 use crate::adders::{Counter, add_in_two, add_while_watched, work_at_sum};
 use crate::shelf::{Answer, Op, Shelf};
-use crate::sum::Sum;
+use crate::sum::{Addend, Sum};
 use crate::workers::{Putting, Source, work_at_shelf};
 use fixed_num::OutOfMemory;
 use std::alloc::Global;
@@ -40,13 +40,13 @@ fn by_hand(rt: HostRuntime) {
         assert!(rt; false, "memory is short");
         return;
     };
-    assert_eq!(rt; stile.call(&rt, &mut first, 5), (5, 1));
+    assert_eq!(rt; stile.call(&rt, &mut first, Addend::Number(5)), (5, 1));
     let mut other = stile.split(&mut first);
-    assert_eq!(rt; stile.call(&rt, &mut other, 7), (12, 2));
+    assert_eq!(rt; stile.call(&rt, &mut other, Addend::Number(7)), (12, 2));
     assert_eq!(rt; stile.glance(&mut first, 0), 12);
     assert_eq!(rt; stile.glance(&mut other, 15), 0);
     stile.join(&mut first, other);
-    assert_eq!(rt; stile.call(&rt, &mut first, 1), (13, 3));
+    assert_eq!(rt; stile.call(&rt, &mut first, Addend::Number(1)), (13, 3));
     assert_eq!(rt; stile.close(first).total, 13);
 }
 
@@ -56,7 +56,10 @@ fn no_dials(rt: HostRuntime) {
         assert!(rt; false, "memory is short");
         return;
     };
-    assert_eq!(rt; stile.call(&rt, &mut first, u64::MAX), (u64::MAX, 1));
+    assert_eq!(rt;
+        stile.call(&rt, &mut first, Addend::Number(u64::MAX)),
+        (u64::MAX, 1)
+    );
     assert_eq!(rt; stile.close(first).total, u64::MAX);
 }
 

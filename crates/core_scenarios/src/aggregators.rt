@@ -2,6 +2,7 @@
 use crate::{Calls, metric, next};
 use agg_keep::{Final, Merge};
 use agg_stats::{Stats, StatsKind};
+use fixed_num::{Moment, OutOfMemory};
 use line_proto::write_line;
 use metric::Metric;
 use scenario_tables::Row;
@@ -9,12 +10,65 @@ use std::alloc::Global;
 use std::test::Fail;
 
 /// An aggregator.
-trait Aggregates {
-    /// Adds a metric, in two steps where that is asked for.
-    fn add(&mut self, in_steps: bool, m: &Metric) -> Result<(), Fail>;
+#[derive(Drop)]
+enum Aggregator {
+    Stats(Stats),
+    Merge(Merge),
+    Final(Final),
+}
 
-    /// What it gives at what words say, in two steps where that is asked for.
-    fn emit(&mut self, in_steps: bool, words: &str) -> Result<Vec<Metric>, Fail>;
+impl Aggregator {
+    /// Adds a metric.
+    fn add(&mut self, m: &Metric) -> Result<(), OutOfMemory> {
+        match self {
+            Aggregator::Stats(stats) => stats.add(m),
+            Aggregator::Merge(merge) => merge.add(m),
+            Aggregator::Final(last) => last.add(m),
+        }
+    }
+
+    /// Adds a metric in two steps.
+    fn add_in_steps(&mut self, m: &Metric) -> Result<(), OutOfMemory> {
+        match self {
+            Aggregator::Stats(stats) => {
+                stats.prepare(m)?;
+                stats.add_prepared();
+            }
+            Aggregator::Merge(merge) => {
+                merge.prepare(m)?;
+                merge.add_prepared();
+            }
+            Aggregator::Final(last) => {
+                last.prepare(m)?;
+                last.add_prepared();
+            }
+        }
+        Ok(())
+    }
+
+    /// What it gives at a moment, or of all series where that is asked for.
+    fn emit(&mut self, moment: Moment, all: bool) -> Result<Vec<Metric>, OutOfMemory> {
+        match self {
+            Aggregator::Stats(stats) => stats.emit(moment),
+            Aggregator::Merge(merge) => merge.emit(),
+            Aggregator::Final(last) => last.emit(moment, all),
+        }
+    }
+
+    /// The same in two steps.
+    fn emit_in_steps(&mut self, moment: Moment, all: bool) -> Result<Vec<Metric>, OutOfMemory> {
+        let metrics = match self {
+            Aggregator::Stats(stats) => stats.made(moment)?,
+            Aggregator::Merge(merge) => merge.made()?,
+            Aggregator::Final(last) => last.made(moment, all)?,
+        };
+        match self {
+            Aggregator::Stats(stats) => stats.forget(),
+            Aggregator::Merge(merge) => merge.forget(),
+            Aggregator::Final(last) => last.forget(moment, all),
+        }
+        Ok(metrics)
+    }
 }
 
 /// The lines of metrics, with none behind the last.
@@ -26,97 +80,6 @@ pub(crate) fn lines_of(alloc: Global, metrics: &[Metric]) -> Result<String, Fail
     let _ = lines.pop();
     Ok(String::from_utf8(lines)?)
 }
-
-/// Adds the metrics of lines in order, and says what a line `emit` with its words gives.
-fn answered<A: Aggregates>(
-    alloc: Global,
-    aggregator: &mut A,
-    in_steps: bool,
-    call: &str,
-) -> Result<String, Fail> {
-    let mut given = String::new(alloc);
-    for line in call.lines() {
-        if let Some(words) = line.strip_prefix("emit") {
-            given = lines_of(alloc, aggregator.emit(in_steps, words)?.as_slice())?;
-        } else if let Some(metric) = metric(alloc, line)? {
-            aggregator.add(in_steps, &metric)?;
-        } else {
-            return Err(Fail::new(format_args!("no metric: {line}")));
-        }
-    }
-    Ok(given)
-}
-
-impl Aggregates for Stats {
-    fn add(&mut self, in_steps: bool, m: &Metric) -> Result<(), Fail> {
-        if in_steps {
-            self.prepare(m)?;
-            self.add_prepared();
-        } else {
-            Stats::add(self, m)?;
-        }
-        Ok(())
-    }
-
-    fn emit(&mut self, in_steps: bool, words: &str) -> Result<Vec<Metric>, Fail> {
-        let time = next(&mut words.split_whitespace());
-        if !in_steps {
-            return Ok(Stats::emit(self, time)?);
-        }
-        let metrics = self.made(time)?;
-        self.forget();
-        Ok(metrics)
-    }
-}
-
-impl Aggregates for Merge {
-    fn add(&mut self, in_steps: bool, m: &Metric) -> Result<(), Fail> {
-        if in_steps {
-            self.prepare(m)?;
-            self.add_prepared();
-        } else {
-            Merge::add(self, m)?;
-        }
-        Ok(())
-    }
-
-    fn emit(&mut self, in_steps: bool, _words: &str) -> Result<Vec<Metric>, Fail> {
-        if !in_steps {
-            return Ok(Merge::emit(self)?);
-        }
-        let metrics = self.made()?;
-        self.forget();
-        Ok(metrics)
-    }
-}
-
-impl Aggregates for Final {
-    fn add(&mut self, in_steps: bool, m: &Metric) -> Result<(), Fail> {
-        if in_steps {
-            self.prepare(m)?;
-            self.add_prepared();
-        } else {
-            Final::add(self, m)?;
-        }
-        Ok(())
-    }
-
-    fn emit(&mut self, in_steps: bool, words: &str) -> Result<Vec<Metric>, Fail> {
-        let mut words = words.split_whitespace();
-        let moment = next(&mut words);
-        let all = words.next() == Some("all");
-        if !in_steps {
-            return Ok(Final::emit(self, moment, all)?);
-        }
-        let metrics = self.made(moment, all)?;
-        self.forget(moment, all);
-        Ok(metrics)
-    }
-}
-
-/// The statistics of metrics, and whether calls are made in two steps each.
-#[derive(Drop)]
-pub struct StatsCalls(Stats, bool);
 
 /// What the words of a row ask for: `minmax`, or those of basicstats.
 fn kind_of(words: &str) -> StatsKind {
@@ -131,42 +94,68 @@ fn kind_of(words: &str) -> StatsKind {
     }
 }
 
-impl Calls for StatsCalls {
-    fn begin(alloc: Global, row: &Row<'_>, word: &str) -> Result<StatsCalls, Fail> {
-        let stats = Stats::new(alloc, kind_of(row.value("kind")));
-        Ok(StatsCalls(stats, word == "steps"))
-    }
-
-    fn make(&mut self, alloc: Global, call: &str) -> Result<String, Fail> {
-        answered(alloc, &mut self.0, self.1, call)
-    }
-}
-
-/// Metrics that are merged, and whether calls are made in two steps each.
-#[derive(Drop)]
-pub struct MergeCalls(Merge, bool);
-
-impl Calls for MergeCalls {
-    fn begin(alloc: Global, _row: &Row<'_>, word: &str) -> Result<MergeCalls, Fail> {
-        Ok(MergeCalls(Merge::new(alloc), word == "steps"))
-    }
-
-    fn make(&mut self, alloc: Global, call: &str) -> Result<String, Fail> {
-        answered(alloc, &mut self.0, self.1, call)
+/// The aggregator that a row asks for.
+fn aggregator_of(alloc: Global, row: &Row<'_>) -> Aggregator {
+    match row.value("kind") {
+        "merge" => Aggregator::Merge(Merge::new(alloc)),
+        "final" => {
+            let timeout = next(&mut row.value("timeout").split_whitespace());
+            Aggregator::Final(Final::new(alloc, timeout))
+        }
+        words => Aggregator::Stats(Stats::new(alloc, kind_of(words))),
     }
 }
 
-/// The last metrics of series, and whether calls are made in two steps each.
+/// An aggregator, and whether calls are made in two steps each.
 #[derive(Drop)]
-pub struct FinalCalls(Final, bool);
+pub struct AggCalls {
+    aggregator: Aggregator,
+    in_steps: bool,
+}
 
-impl Calls for FinalCalls {
-    fn begin(alloc: Global, row: &Row<'_>, word: &str) -> Result<FinalCalls, Fail> {
-        let timeout = next(&mut row.value("timeout").split_whitespace());
-        Ok(FinalCalls(Final::new(alloc, timeout), word == "steps"))
+impl AggCalls {
+    /// Adds a metric.
+    fn add(&mut self, m: &Metric) -> Result<(), OutOfMemory> {
+        if self.in_steps {
+            self.aggregator.add_in_steps(m)
+        } else {
+            self.aggregator.add(m)
+        }
     }
 
+    /// What the aggregator gives at what words say.
+    fn emit(&mut self, words: &str) -> Result<Vec<Metric>, OutOfMemory> {
+        let mut words = words.split_whitespace();
+        let moment = next(&mut words);
+        let all = words.next() == Some("all");
+        if self.in_steps {
+            self.aggregator.emit_in_steps(moment, all)
+        } else {
+            self.aggregator.emit(moment, all)
+        }
+    }
+}
+
+impl Calls for AggCalls {
+    fn begin(alloc: Global, row: &Row<'_>, word: &str) -> Result<AggCalls, Fail> {
+        Ok(AggCalls {
+            aggregator: aggregator_of(alloc, row),
+            in_steps: word == "steps",
+        })
+    }
+
+    /// Adds the metrics of lines in order, and says what a line `emit` with its words gives.
     fn make(&mut self, alloc: Global, call: &str) -> Result<String, Fail> {
-        answered(alloc, &mut self.0, self.1, call)
+        let mut given = String::new(alloc);
+        for line in call.lines() {
+            if let Some(words) = line.strip_prefix("emit") {
+                given = lines_of(alloc, self.emit(words)?.as_slice())?;
+            } else if let Some(metric) = metric(alloc, line)? {
+                self.add(&metric)?;
+            } else {
+                return Err(Fail::new(format_args!("no metric: {line}")));
+            }
+        }
+        Ok(given)
     }
 }

@@ -14,7 +14,7 @@ mod servers;
 mod singles;
 mod sources;
 
-use aggregators::{FinalCalls, MergeCalls, StatsCalls};
+use aggregators::AggCalls;
 use banks::BankCalls;
 use cores::CoreCalls;
 use groups::GroupCalls;
@@ -96,9 +96,9 @@ fn main(rt: HostRuntime) -> Result<(), Fail> {
     all &= table::<ReadCalls>(&rt, asked, "readings")?;
     all &= table::<CoreCalls>(&rt, asked, "cores")?;
     all &= table::<GroupCalls>(&rt, asked, "groups")?;
-    all &= table::<StatsCalls>(&rt, asked, "statistics")?;
-    all &= table::<MergeCalls>(&rt, asked, "merges")?;
-    all &= table::<FinalCalls>(&rt, asked, "finals")?;
+    all &= table::<AggCalls>(&rt, asked, "statistics")?;
+    all &= table::<AggCalls>(&rt, asked, "merges")?;
+    all &= table::<AggCalls>(&rt, asked, "finals")?;
     all &= table::<BankCalls>(&rt, asked, "banks")?;
     all &= table::<ServerCalls>(&rt, asked, "servers")?;
     all &= table::<SourceCalls>(&rt, asked, "sources")?;

@@ -172,16 +172,15 @@ order-push start core next last ticked journal e no_tick still worked stands l o
     order_with start core next last ticked ticked journal e stands l orderly none
     (λ t f. ticked-push start.job.work journal (setup_at start) e no_tick still worked (h.has_ticked t f)) h
 
--- how far a run has come where its core, its next input, its timer and its count of failures are others, and where it
--- goes
--- on from another front: all else is as it was
-abbrev pub carried : (start : Beginning) (front : List Entry) (now : RunState) (core : CoreState) (next : ℕ)
-    (timer : Timed)
-    (still : ℕ) (w : Progress start now) → HasText (record start { front = front }) core now.journal w.journal
+-- how far a run has come where its core, its journal's part, its next input, its timer and its count of failures are
+-- others, and where it goes on from another front: all else is as it was
+abbrev pub carried : (start : Beginning) (front : List Entry) (now : RunState) (core : CoreState) (part : JournalPart)
+    (next : ℕ) (timer : Timed) (still : ℕ) (w : Progress start now)
+    → HasText (record start { front = front }) core part w.journal
     → HasOrder start next now.ticked w.journal → HasFailed still w.journal
     → Progress (record start { front = front })
-    (record now { core = core; next = next; timer = timer; still = still })
-carried start front now core next timer still w text order failed = record {
+    (record now { core = core; journal = part; next = next; timer = timer; still = still })
+carried start front now core part next timer still w text order failed = record {
   journal = w.journal;
   text = text;
   in_count = w.in_count;
@@ -200,7 +199,7 @@ carried start front now core next timer still w text order failed = record {
 pub went_next : (start : Beginning) (core : CoreState) (now : RunState) (next : ℕ) → core.raw ≡ []
     → Progress start (record now { core = core }) → Progress start (record now { core = core; next = next })
 went_next start core now next none w =
-    carried start start.front (record now { core = core }) core next now.timer now.still w w.text (record {
+    carried start start.front (record now { core = core }) core now.journal next now.timer now.still w w.text (record {
       in_order = w.order.in_order;
       none_raw = λ f input b. raw_of-none input w.journal (sym w.text.stands.raw ∙ none);
       has_ticked = w.order.has_ticked;
@@ -210,14 +209,15 @@ went_next start core now next none w =
 abbrev pub went_timed : (start : Beginning) (now : RunState) (timer : Timed) → Progress start now
     → Progress start (record now { timer = timer })
 went_timed start now timer w =
-    carried start start.front now now.core now.next timer now.still w w.text w.order w.still
+    carried start start.front now now.core now.journal now.next timer now.still w w.text w.order w.still
 
 -- and none is of an input behind those of which none is
 pub went_behind : (start : Beginning) (core : CoreState) (now : RunState) (next last : ℕ) → next ≤ last
     → Progress start (record now { core = core; next = next })
     → Progress start (record now { core = core; next = last })
 went_behind start core now next last l w =
-    carried start start.front (record now { core = core; next = next }) core last now.timer now.still w w.text (record {
+    carried start start.front (record now { core = core; next = next }) core now.journal last now.timer now.still w w.text
+    (record {
       in_order = w.order.in_order;
       none_raw = λ f input b. w.order.none_raw f input (omega (arith, l, b));
       has_ticked = w.order.has_ticked;
@@ -227,14 +227,14 @@ went_behind start core now next last l w =
 pub went_fewer : (start : Beginning) (now : RunState) (still : ℕ) → still ≤ now.still → Progress start now
     → Progress start (record now { still = still })
 went_fewer start now still few w =
-    carried start start.front now now.core now.next now.timer still w w.text w.order
+    carried start start.front now now.core now.journal now.next now.timer still w w.text w.order
     (failed_fewer still now.still w.journal few w.still)
 
 -- what has come so far is a front of whatever is to come
 pub went_front : (start : Beginning) (now : RunState) (w : Progress start now)
     → Progress (record start { front = w.journal }) now
 went_front start now w =
-    carried start w.journal now now.core now.next now.timer now.still w (record {
+    carried start w.journal now now.core now.journal now.next now.timer now.still w (record {
       stands = w.text.stands;
       setup_is = w.text.setup_is;
       more = [];
@@ -249,7 +249,8 @@ went_front start now w =
 abbrev pub went_back : (start : Beginning) (now last : RunState) (w : Progress start now)
     → Progress (record start { front = w.journal }) last → Progress start last
 went_back start now last w v =
-    carried (record start { front = w.journal }) start.front last last.core last.next last.timer last.still v (record {
+    carried (record start { front = w.journal }) start.front last last.core last.journal last.next last.timer last.still v
+    (record {
       stands = v.text.stands;
       setup_is = v.text.setup_is;
       more = w.text.more ++ v.text.more;
@@ -480,21 +481,10 @@ pub went_cut : (start : Beginning) (core next : CoreState) (part more : JournalP
     → ((es : List Entry) → Stands core es → Stands next es) → next ≡ after_cut core → NotesOn core.stored part more
     → Progress start (record now { core = core; journal = part })
     → Progress start (record now { core = next; journal = more })
-went_cut start core next part more now stands is notes w = record {
-  journal = w.journal;
-  text = text-cut start core next part more w.journal w.text w.worked stands (ap (λ (s : CoreState). s.stored) is)
-      (ap (λ (s : CoreState). s.setup) is) notes;
-  in_count = w.in_count;
-  heard = w.heard;
-  out_count = w.out_count;
-  said = w.said;
-  work_is = w.work_is;
-  worked = w.worked;
-  pushed = w.pushed;
-  order = w.order;
-  counted_at = w.counted_at;
-  still = w.still;
-}
+went_cut start core next part more now stands is notes w =
+    carried start start.front (record now { core = core; journal = part }) next more now.next now.timer now.still w
+    (text-cut start core next part more w.journal w.text w.worked stands (ap (λ (s : CoreState). s.stored) is)
+    (ap (λ (s : CoreState). s.setup) is) notes) w.order w.still
 
 -- no entry was stored
 pub went_uncut : (start : Beginning) (core next : CoreState) (now : RunState) → next ≡ core

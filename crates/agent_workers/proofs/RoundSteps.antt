@@ -302,7 +302,7 @@ settled_told core next outs same h = λ o l.
 pub went_told : (core next : CoreState) → next ≡ record core { told = next.told }
     → ((journal : List Entry) → Stands core journal → Stands next journal) → TellsOn core next
 went_told core next same stands = λ start now w.
-    carried start start.front (record now { core = core }) next now.next now.timer now.still w (record {
+    carried start start.front (record now { core = core }) next now.journal now.next now.timer now.still w (record {
       stands = stands w.journal w.text.stands;
       setup_is = ap (λ (s : CoreState). s.setup) same ∙ w.text.setup_is;
       more = w.text.more;

@@ -216,8 +216,8 @@ pub went_behind : (start : Beginning) (core : CoreState) (now : RunState) (next 
     → Progress start (record now { core = core; next = next })
     → Progress start (record now { core = core; next = last })
 went_behind start core now next last l w =
-    carried start start.front (record now { core = core; next = next }) core now.journal last now.timer now.still w w.text
-    (record {
+    let old : RunState = record now { core = core; next = next } in
+    carried start start.front old core now.journal last now.timer now.still w w.text (record {
       in_order = w.order.in_order;
       none_raw = λ f input b. w.order.none_raw f input (omega (arith, l, b));
       has_ticked = w.order.has_ticked;
@@ -249,8 +249,8 @@ went_front start now w =
 abbrev pub went_back : (start : Beginning) (now last : RunState) (w : Progress start now)
     → Progress (record start { front = w.journal }) last → Progress start last
 went_back start now last w v =
-    carried (record start { front = w.journal }) start.front last last.core last.journal last.next last.timer last.still v
-    (record {
+    let behind : Beginning = record start { front = w.journal } in
+    carried behind start.front last last.core last.journal last.next last.timer last.still v (record {
       stands = v.text.stands;
       setup_is = v.text.setup_is;
       more = w.text.more ++ v.text.more;

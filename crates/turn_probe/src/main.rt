@@ -14,7 +14,7 @@ use std::thread::Threads;
 use std::time::{Clock, Duration};
 use std::{env, thread};
 use turnstile::{Pass, Turnstile};
-use turnstile_scenarios::{Addend, Adder, Sum, work_at_sum};
+use turnstile_scenarios::{Addend, Adder, Sum, Work, work_at_sum};
 
 /// The pass that waits calls so many milliseconds after the other one.
 const LATER: u64 = 100;
@@ -35,18 +35,36 @@ fn sum_of<R: Threads + Wait + Sync>(
     Some(sum.total)
 }
 
-/// Adds to the sum once, and answers it.
-fn add<R: Wait>(
-    rt: &R,
-    stile: &Turnstile<Sum>,
-    mut pass: Pass<Sum>,
-    addend: Addend,
-) -> (Pass<Sum>, u64)
-    requires { pass.table ≡ stile.now.table }
-    ensures { (result.0.table ≡ pass.table) × (result.0.view.number ≡ pass.view.number) }
-{
-    let (sum, _) = stile.call(rt, &mut pass, addend);
-    (pass, sum)
+/// Adds to the sum once, after a while, and keeps the sum.
+#[derive(Drop)]
+struct AddOnce<'a, R: Clock> {
+    rt: &'a R,
+    after: Duration,
+    addend: Option<Addend>,
+    sum: u64,
+}
+
+impl<'a, R: Clock> AddOnce<'a, R> {
+    /// It adds after so many milliseconds.
+    fn after(rt: &'a R, millis: u64, addend: Addend) -> AddOnce<'a, R> {
+        AddOnce {
+            rt,
+            after: Duration::from_millis(millis),
+            addend: Some(addend),
+            sum: 0,
+        }
+    }
+}
+
+impl<'a, R: Clock> Work<Sum> for AddOnce<'a, R> {
+    fn run<T: Wait>(&mut self, rt: &T, stile: &Turnstile<Sum>, pass: &mut Pass<Sum>) {
+        let Some(addend) = self.addend.take() else {
+            return;
+        };
+        thread::sleep(self.rt, self.after);
+        let (sum, _) = stile.call(rt, pass, addend);
+        self.sum = sum;
+    }
 }
 
 /// One pass adds how many bytes all of standard input has, in a call, and another one waits meanwhile to add 1. Answers
@@ -56,25 +74,18 @@ fn read_while_one_waits<R: Threads + Wait + Clock + Sync>(
     alloc: Global,
     input: Stdin,
 ) -> Option<(u64, u64)> {
-    let Ok((stile, mut first)) = Turnstile::new(alloc, Sum { total: 0 }, 0) else {
-        return None;
-    };
-    let one = stile.split(&mut first);
-    let two = stile.split(&mut first);
-    let lent = &stile;
-    let ((_, read), (_, more)) = thread::join(
-        rt,
-        move || -> (Pass<Sum>, u64)
-            requires { one.table ≡ lent.now.table }
-        { add(rt, lent, one, Addend::BytesOf(input)) },
-        move || -> (Pass<Sum>, u64)
-            requires { two.table ≡ lent.now.table }
-        {
-            thread::sleep(rt, Duration::from_millis(LATER));
-            add(rt, lent, two, Addend::Number(1))
-        },
-    );
-    Some((read, more))
+    let mut works = Vec::new(alloc);
+    works
+        .push(AddOnce::after(rt, 0, Addend::BytesOf(input)))
+        .ok()?;
+    works
+        .push(AddOnce::after(rt, LATER, Addend::Number(1)))
+        .ok()?;
+    let (_, works) = work_at_sum(rt, alloc, 0, works).ok()?;
+    match works.as_slice() {
+        [read, more] => Some((read.sum, more.sum)),
+        _ => None,
+    }
 }
 
 /// A word as a number.

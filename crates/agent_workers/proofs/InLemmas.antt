@@ -50,8 +50,7 @@ same_input first old new h k = record {
   input = k.input ∙ h.input;
   rule = k.rule ∙ h.rule;
   limit = k.limit ∙ h.limit;
-  moments = k.moments
-      ∙ h.moments;
+  moments = k.moments ∙ h.moments;
 }
 
 pub same_inputs : (firsts olds news : List InPart) → AreSameInputs firsts olds → AreSameInputs olds news
@@ -130,8 +129,7 @@ pub gathered_then : (old mid new : CoreState) → IsGathered old mid → IsGathe
 gathered_then old mid new h k = record {
   setup = k.setup ∙ h.setup;
   held = k.held ∙ h.held;
-  stopped = k.stopped
-      ∙ h.stopped;
+  stopped = k.stopped ∙ h.stopped;
   lanes = k.lanes ∙ h.lanes;
   numbers = k.numbers ∙ h.numbers;
   stored = omega (arith, h.stored, k.stored);

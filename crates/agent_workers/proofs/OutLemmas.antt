@@ -144,8 +144,7 @@ pub sent_on : (old mid new : CoreState) → IsSentOn old mid → IsSentOn mid ne
 sent_on old mid new h k = record {
   setup = k.setup ∙ h.setup;
   raw = k.raw ∙ h.raw;
-  held = k.held
-      ∙ h.held;
+  held = k.held ∙ h.held;
   ended = k.ended ∙ h.ended;
   gathered = k.gathered ∙ h.gathered;
   stopped = k.stopped ∙ h.stopped;
@@ -157,8 +156,7 @@ sent_more o old mid new h k = record {
   lane_count = k.lane_count ∙ h.lane_count;
   others = λ j ne. record {
     lane = (k.others j ne).lane ∙ (h.others j ne).lane;
-    numbers = (k.others j ne).numbers
-        ∙ (h.others j ne).numbers;
+    numbers = (k.others j ne).numbers ∙ (h.others j ne).numbers;
   };
 }
 
@@ -297,8 +295,7 @@ ready_routed old new h k held = record {
   each = λ o b. let l : o < length old.lanes = omega (arith, b, k.lane_count) in
       record {
         some = subst (λ (n : ℕ). 1 ≤ n) (sym (k.each o l).batch) (h.each o l).some;
-        landed = (k.each o l).flight
-            ∙ (h.each o l).landed;
+        landed = (k.each o l).flight ∙ (h.each o l).landed;
       };
   empty_handed = held;
   limits = subst HasLimits (sym k.setup) h.limits;

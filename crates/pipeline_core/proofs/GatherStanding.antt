@@ -27,8 +27,9 @@ use Rattle.pipeline_core.specs.Totals.{gathered_with, gathers_too, group_count, 
 use Rattle.pipeline_core.specs.Tracked.{tracker_after}
 use Rattle.pipeline_core.specs.CoreState.{CoreState, GroupsAgree, IsCore}
 use Rattle.pipeline_core.specs.Stands.{Continues, Stands}
-use Rattle.pipeline_core.specs.Steps.{HasGroup, HasNumbers, HasRawRoom, after_gather, entry_of, gather_entry, gather_reports}
-use Rattle.pipeline_core.specs.Steps.{gathered_too, group_for, most_of, next_number, reports_started, said_of, start_group}
+use Rattle.pipeline_core.specs.Steps.{HasGroup, HasNumbers, HasRawRoom, after_gather, entry_of, gather_entry}
+use Rattle.pipeline_core.specs.Steps.{gather_reports, gathered_too, group_for, most_of, next_number, said_of}
+use Rattle.pipeline_core.specs.Steps.{reports_started, start_group}
 use Rattle.pipeline_core.specs.declared.gathering.Gathered.{Gathered}
 use Rattle.pipeline_core.proofs.CopyBounds.{no_copies, no_fates}
 use Rattle.pipeline_core.proofs.CopyGroups.{gather_copies}

@@ -7,7 +7,8 @@ use Rattle.account.specs.declared.entry.Entry.TheVariants as entries
 use Rattle.account.specs.declared.entry.Report.{Report}
 use Rattle.account.specs.declared.entry.Verdict.{Verdict}
 use Rattle.pipeline_core.specs.CoreState.{CoreState}
-use Rattle.pipeline_core.specs.Steps.{entry_of, gather_entry, route_entry, tick_entry, stop_entry, done_entry, moment_at}
+use Rattle.pipeline_core.specs.Steps.{done_entry, entry_of, gather_entry, moment_at, route_entry, stop_entry}
+use Rattle.pipeline_core.specs.Steps.{tick_entry}
 use Rattle.pipeline_core.specs.declared.gathering.Gathered.{Gathered}
 use Rattle.pipeline_core.specs.declared.routing.Routed.{Routed}
 

@@ -181,7 +181,8 @@ bytes_turned a b =
 names_own : (series : Series) (change : Change) (member : Member) → series_eq series member.series ≡ true
     → is_it (member_named series change) member ≡ list_any (bytes_eq member.text) (members_of change)
 names_own series (Names text) member e =
-    rw e (and_true (bytes_eq text member.text) ∙ bytes_turned text member.text ∙ sym (or_false (bytes_eq member.text text)))
+    rw e (and_true (bytes_eq text member.text) ∙ bytes_turned text member.text
+    ∙ sym (or_false (bytes_eq member.text text)))
 names_own series (Adds n) member e = refl
 names_own series (Sets n) member e = refl
 names_own series (Moves n) member e = refl
@@ -204,7 +205,8 @@ members_more past now part old members h put m =
     let s = series_of part in
     let c = change_of part in
     let xs = changes_of s now in
-    put m ∙ elim (series_eq s m.series) as (λ t. series_eq s m.series ≡ t → (is_it (member_named s c) m || is_named old.members m)
+    put m ∙ elim (series_eq s m.series) as (λ t. series_eq s m.series ≡ t
+    → (is_it (member_named s c) m || is_named old.members m)
     ≡ list_any (bytes_eq m.text) (members_in (changes_of m.series (now ++ part ∷ [])))) [
       | true ↦ λ e.
           let here : is_named old.members m ≡ list_any (bytes_eq m.text) (members_in xs) =

@@ -110,7 +110,8 @@ many_untold name tags moment said many h = by_limit (list_any has_too_many (map 
     each (one ∷ said) = (omega (arith, many, no_fewer tags one.metric_type h), each said)
 
     by_limit : (t : Bool)
-        → IsUntold (cond t (Err (record { kind = TooMany; offset = 0 })) (Ok (map (kept_content name tags moment) said)))
+        → IsUntold (cond t (Err (record { kind = TooMany; offset = 0 }))
+        (Ok (map (kept_content name tags moment) said)))
     by_limit true = refl
     by_limit false = each said
 

@@ -18,5 +18,5 @@ pub use item::ProcJob;
 pub use journal::JournalJob;
 pub use output::OutJob;
 pub use parts::{Clocks, Opened, Parts, set_up};
-pub use rounds::Ending;
-pub use serial::{finish, run};
+pub use rounds::{Ending, finish};
+pub use serial::run;

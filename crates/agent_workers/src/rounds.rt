@@ -180,40 +180,44 @@ impl<'a, S: Source + Drop, K: Sink + Drop, C: Clock + Drop> Parts<'a, S, K, C> {
         let_reports_go(core, &self.inputs);
         Ok(())
     }
+}
 
-    /// Comes to the end of the run: rounds, the stop at the timer's moment, and the end of the journal.
-    pub fn end(
-        &mut self,
-        alloc: Global,
-        core: &mut Core,
-        text: &mut Vec<u8>,
-    ) -> Result<Ending, OutOfMemory>
-        requires few { length core.old.setup.outputs ≤ 16 }
-        requires running { IsRunning core.old }
-        requires fit { AreFit (state_of S.told K.told C.told core.old self.old) }
-        requires some { 1 ≤ self.old.final_tries }
-        ensures parts { AreSameParts self.old self.new }
-        ensures same { OnOk result (AreSameInputs (ins_of S.told C.told self.old.inputs.items)
-            (ins_of S.told C.told self.new.inputs.items)) }
-        ensures finished { IfOk result (λ ending. (job : Job) → job.tries ≡ self.old.final_tries
-            → FinishesSo job ending (state_of S.told K.told C.told core.old self.old)
-            (state_of S.told K.told C.told core.new self.new)) }
-    {
-        let _idle = self.rounds(alloc, core, text)?;
-        let moment = self.timer.now();
-        self.stop(alloc, core, text, moment)?;
-        let outputs = self.outputs.len() as u32;
-        let (account, buffered) = end_journal(alloc, core, text, outputs, &mut self.journal)?;
-        let reading = is_one_in(&self.inputs, InState::Reading);
-        Ok(Ending {
-            account,
-            limit: is_one_in(&self.inputs, InState::LimitReached),
-            journal_fault: self.journal.failed,
-            read_fault: is_one_in(&self.inputs, InState::Faulted),
-            left: is_one_of(buffered, reading),
-            inputs: ends_of(alloc, &self.inputs),
-        })
-    }
+/// Comes to the end of a run, whatever its core and its jobs have come to: rounds, each of which puts the
+/// entries that it made, until each input is read no more and holds nothing; the stop, and what is buffered is
+/// sent; and the end of the journal.
+///
+/// It always returns. Where memory ran out the core and the jobs are as the calls made until then left them.
+pub fn finish<S: Source + Drop, K: Sink + Drop, C: Clock + Drop>(
+    alloc: Global,
+    core: &mut Core,
+    parts: &mut Parts<'_, S, K, C>,
+) -> Result<Ending, OutOfMemory>
+    requires few { length core.old.setup.outputs ≤ 16 }
+    requires running { IsRunning core.old }
+    requires fit { AreFit (state_of S.told K.told C.told core.old parts.old) }
+    requires some { 1 ≤ parts.old.final_tries }
+    ensures parts { AreSameParts parts.old parts.new }
+    ensures same { OnOk result (AreSameInputs (ins_of S.told C.told parts.old.inputs.items)
+        (ins_of S.told C.told parts.new.inputs.items)) }
+    ensures finished { IfOk result (λ ending. (job : Job) → job.tries ≡ parts.old.final_tries
+        → FinishesSo job ending (state_of S.told K.told C.told core.old parts.old)
+        (state_of S.told K.told C.told core.new parts.new)) }
+{
+    let mut text = Vec::new(alloc);
+    let _idle = parts.rounds(alloc, core, &mut text)?;
+    let moment = parts.timer.now();
+    parts.stop(alloc, core, &mut text, moment)?;
+    let outputs = parts.outputs.len() as u32;
+    let (account, buffered) = end_journal(alloc, core, &mut text, outputs, &mut parts.journal)?;
+    let reading = is_one_in(&parts.inputs, InState::Reading);
+    Ok(Ending {
+        account,
+        limit: is_one_in(&parts.inputs, InState::LimitReached),
+        journal_fault: parts.journal.failed,
+        read_fault: is_one_in(&parts.inputs, InState::Faulted),
+        left: is_one_of(buffered, reading),
+        inputs: ends_of(alloc, &parts.inputs),
+    })
 }
 
 /// Routes all raw items, and puts the journal's entries each time that many were routed: so they needn't all be held.

@@ -27,15 +27,15 @@ use Rattle.agent_workers.proofs.InLemmas.{same_inputs}
 use Rattle.agent_workers.proofs.FinishSteps.{finished}
 use Rattle.agent_workers.proofs.RoundSteps.{all_held}
 use Rattle.agent_workers.proofs.ProgressLemmas.{stored_in_order, stored_known, went_timed}
-use Rattle.agent_workers.proofs.parts.Parts.«end».Given.{Over}
-use Rattle.agent_workers.proofs.parts.Parts.«end».Goals as goal
+use Rattle.agent_workers.proofs.rounds.finish.Given.{Over}
+use Rattle.agent_workers.proofs.rounds.finish.Goals as goal
 
 abbrev state : (g : Over) → CoreState → Parts g.row.S.Denot g.row.K.Denot g.row.C.Denot → RunState
 state g = state_of g.S.Source.told g.K.Sink.told g.C.Clock.told
 
 pub returns-clause-same : goal.returns-clause-same
 returns-clause-same g c =
-    same_inputs (ins_of g.S.Source.told g.C.Clock.told c.args.self.now.inputs.items)
+    same_inputs (ins_of g.S.Source.told g.C.Clock.told c.args.parts.now.inputs.items)
     (ins_of g.S.Source.told g.C.Clock.told c.rounds.new.self.inputs.items)
     (ins_of g.S.Source.told g.C.Clock.told c.stop.new.self.inputs.items)
     c.in_ok-_idle.ensures.about.inputs c.in_ok-stop.ensures.about.inputs
@@ -44,7 +44,7 @@ pub returns-clause-finished : goal.returns-clause-finished
 returns-clause-finished g c = λ job tries start counted is starts_count outs_count settled w.
     let moment = to_z w64 (of_z w64 c.now-moment.result) in
     let same_moment : moment ≡ c.now-moment.result = to_z-of_z w64 c.now-moment.result (search rules) in
-    let first : RunState = record (state g c.args.core.now c.args.self.now) { counted_at = counted } in
+    let first : RunState = record (state g c.args.core.now c.args.parts.now) { counted_at = counted } in
     let idle : ℕ = c.in_ok-_idle._idle in
     let over_rounds = c.in_ok-_idle.ensures.runs start counted 0 settled w in
     let so_far : List ℤ = over_rounds.counted_now in
@@ -64,7 +64,7 @@ returns-clause-finished g c = λ job tries start counted is starts_count outs_co
     ap (λ (s : Setup). length s.outputs) stopped.text.setup_is ∙ length-map start.job.outputs output_sizes in
     let tried : c.rounds.new.self.final_tries ≡ start.job.tries =
     c.rounds.ensures.parts.tries ∙ sym tries ∙ sym (ap (λ (j : Job). j.tries) is) in
-    let tries_are : c.args.self.now.final_tries ≡ start.job.tries = sym c.rounds.ensures.parts.tries ∙ tried in
+    let tries_are : c.args.parts.now.final_tries ≡ start.job.tries = sym c.rounds.ensures.parts.tries ∙ tried in
     let over : OneIsFull c.stop.new.core.gathered last.ins ⊎ AreOut last.ins ⊎ ((k : ℕ) → k < length last.ins
     → IsOut (in_at last.ins k) ⊎ IsHeldBack start.job.tries (setup_at start) stopped.journal k) =
     elim c.in_ok-_idle.ensures.over [

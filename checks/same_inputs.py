@@ -2,7 +2,8 @@
 
 An input is a few lines of line protocol, well formed or hostile, with texts whose lengths lie around those at which a
 program may keep them in another way. The two programs read the same file with the same batch and limit, some of them
-with an output that takes nothing. A moment, which is that of the run, counts as `now`.
+with an output that takes nothing; every other case is a run of a random configuration over one to three such files, with
+filters, processors and several outputs. A moment, which is that of the run, counts as `now`.
 """
 
 import os
@@ -13,6 +14,8 @@ import sys
 import tempfile
 import time
 from concurrent.futures import ThreadPoolExecutor
+
+from same_configurations import configuration
 
 SECONDS = 20
 SHOWN = 5
@@ -152,35 +155,48 @@ class Case:
     def __init__(self, seed, number):
         rng = random.Random("same %s %d" % (seed, number))
         self.number = number
-        self.input = lines(rng)
-        self.limit = rng.choice([1, 2, 3, 10, 100, 10000])
-        self.batch = rng.randint(1, min(self.limit, 50))
-        self.refusing = rng.random() < 0.05
+        self.files = {"input": lines(rng)}
+        limit = rng.choice([1, 2, 3, 10, 100, 10000])
+        batch = rng.randint(1, min(limit, 50))
+        refusing = rng.random() < 0.05
+        self.words = ["pipe", "input", "/dev/full" if refusing else "output", str(batch), str(limit)]
+        self.written = ["output"]
+        if number % 2:
+            self.files.update({"input%d" % more: lines(rng) for more in range(rng.choice([0, 0, 1, 2]))})
+            text, self.written = configuration(rng, list(self.files), refusing)
+            self.files["agent.toml"] = text.encode()
+            self.words = ["run", "agent.toml"]
+
+    def size(self):
+        return sum(len(content) for content in self.files.values())
 
 
 def without_moments(content, began, ended):
-    """The bytes with `now` in place of each number that is a moment of the run."""
+    """The bytes with `now` in place of each number that is a moment of the run, in nanoseconds or in seconds."""
 
     def plain(found):
         return b"now" if began <= int(found.group()) <= ended else found.group()
 
-    return re.sub(rb"(?<!\d)\d{19}(?!\d)", plain, content)
+    def seconds(found):
+        return b"now" if began // 10**9 <= int(found.group(1)) <= ended // 10**9 else found.group()
+
+    content = re.sub(rb"(?<!\d)\d{19}(?!\d)", plain, content)
+    return re.sub(rb"(?<!\d)(\d{10})(\.\d{1,9})?(?!\d)", seconds, content)
 
 
 def left_by(program, case, folder):
     """What a program leaves of a case, by name."""
     os.mkdir(folder)
-    with open(os.path.join(folder, "input"), "wb") as out:
-        out.write(case.input)
-    target = "/dev/full" if case.refusing else "output"
+    for name, content in case.files.items():
+        with open(os.path.join(folder, name), "wb") as out:
+            out.write(content)
     began = time.time_ns() - 2_000_000_000
     ran = subprocess.run(
-        [program, "pipe", "input", target, str(case.batch), str(case.limit)],
-        cwd=folder, stdin=subprocess.DEVNULL, capture_output=True, timeout=SECONDS, check=False,
+        [program, *case.words], cwd=folder, stdin=subprocess.DEVNULL, capture_output=True, timeout=SECONDS, check=False,
     )
     ended = time.time_ns() + 2_000_000_000
     left = {"status": ran.returncode, "report": ran.stdout, "standard error": ran.stderr}
-    for name in ("output", "agent.journal"):
+    for name in (*case.written, "agent.journal"):
         path = os.path.join(folder, name)
         if os.path.exists(path):
             with open(path, "rb") as got:
@@ -208,7 +224,7 @@ def main(old, new, inputs, seed):
         cases = (Case(seed, number) for number in range(int(inputs)))
         for case, differing, metrics in pool.map(lambda case: compare(old, new, case, top), cases):
             read += metrics
-            size += len(case.input)
+            size += case.size()
             if differing:
                 differ += 1
                 if differ <= SHOWN:

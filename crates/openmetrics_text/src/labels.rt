@@ -5,9 +5,8 @@ ghost use Rattle.std.specs.Str.{IsCharBoundary, bytes_eq};
 ghost use Rattle.text_parts.specs.Chain.{Gives};
 ghost use Rattle.text_parts.specs.Part.{text_at};
 ghost use Rattle.text_parts.specs.Span.{IsSpan};
-ghost use Rattle.openmetrics_text.specs.Labels.{value_part, is_opened_at, label_name_at, label_value_at};
-ghost use Rattle.openmetrics_text.specs.Labels.{label_at, some_labels_at, has_twice, names_of, labels_at};
-ghost use Rattle.openmetrics_text.specs.Labels.{AreNamed};
+ghost use Rattle.openmetrics_text.specs.Labels.{value_part, is_opened_at, label_name_at, label_at};
+ghost use Rattle.openmetrics_text.specs.Labels.{has_twice, names_of, labels_at, AreNamed};
 ghost use Rattle.openmetrics_text.specs.Views.{text_view, label_view};
 
 use crate::fault::{ExpositionKind, fault};
@@ -110,28 +109,8 @@ fn value_text<'a>(alloc: Global, line: &'a str, span: &Span) -> Result<LabelText
     Ok(LabelText::Plain(span_text(line, span)))
 }
 
-/// The value that begins at an offset, behind its double quote, and the offset behind the one that ends it.
-#[tactic(auto, unfolding(crate::specs::Labels::label_value_at))]
-fn label_value_at<'a>(
-    alloc: Global,
-    line: &'a str,
-    i: usize,
-) -> Result<(LabelText<'a>, usize), ReadError<ExpositionKind>>
-    requires boundary { IsCharBoundary line.now i }
-    ensures gives { Gives (λ x. (text_view x.0, x.1)) result (label_value_at line.now i) }
-    ensures behind { IfOk result (λ x. IsCharBoundary line.now x.1) }
-    ensures more { IfOk result (λ x. i < x.1) }
-{
-    let span = value_span(line, i);
-    if !is_at(b'"', line, span.end) {
-        return Err(fault(ExpositionKind::BadLabel));
-    }
-    let text = value_text(alloc, line, &span)?;
-    Ok((text, span.end + 1))
-}
-
 /// The label that begins at an offset, and the offset behind it.
-#[tactic(auto, unfolding(crate::specs::Labels::label_at))]
+#[tactic(auto, unfolding(crate::specs::Labels::label_at, crate::specs::Labels::label_value_at))]
 fn label_at<'a>(
     alloc: Global,
     line: &'a str,
@@ -144,33 +123,12 @@ fn label_at<'a>(
     ensures more { IfOk result (λ x. i ≤ x.1) }
 {
     let name = label_name_at(line, i)?;
-    let (value, behind) = label_value_at(alloc, line, i + name.len() + 2)?;
-    Ok((Label { name, value }, behind))
-}
-
-/// The labels that begin at an offset, with commas between them, and the offset behind them. They are put into the room.
-fn some_labels_at<'a>(
-    alloc: Global,
-    line: &'a str,
-    i: usize,
-    room: Vec<Label<'a>>,
-) -> Result<(Vec<Label<'a>>, usize), ReadError<ExpositionKind>>
-    requires boundary { IsCharBoundary line.now i }
-    requires empty { room.items ≡ [] }
-    ensures gives { Gives (λ x. (map label_view x.0.items, x.1)) result (some_labels_at line.now i) }
-    ensures named { IfOk result (λ x. AreNamed (map label_view x.0.items)) }
-    ensures behind { IfOk result (λ x. IsCharBoundary line.now x.1) }
-{
-    let (first, behind) = label_at(alloc, line, i)?;
-    let mut labels = room;
-    labels.push(first)?;
-    let mut at = behind;
-    'labels: while is_at(b',', line, at) {
-        let (label, behind) = label_at(alloc, line, at + 1)?;
-        labels.push(label)?;
-        at = behind;
+    let span = value_span(line, i + name.len() + 2);
+    if !is_at(b'"', line, span.end) {
+        return Err(fault(ExpositionKind::BadLabel));
     }
-    Ok((labels, at))
+    let value = value_text(alloc, line, &span)?;
+    Ok((Label { name, value }, span.end + 1))
 }
 
 /// Whether one of some labels has a name.
@@ -232,7 +190,15 @@ pub(crate) fn labels_at<'a>(
     if is_at(b'}', line, i) {
         return Ok((room, i + 1));
     }
-    let (labels, at) = some_labels_at(alloc, line, i, room)?;
+    let (first, behind) = label_at(alloc, line, i)?;
+    let mut labels = room;
+    labels.push(first)?;
+    let mut at = behind;
+    'labels: while is_at(b',', line, at) {
+        let (label, behind) = label_at(alloc, line, at + 1)?;
+        labels.push(label)?;
+        at = behind;
+    }
     if !is_at(b'}', line, at) {
         return Err(fault(ExpositionKind::BadLabel));
     }

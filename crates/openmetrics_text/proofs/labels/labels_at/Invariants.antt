@@ -4,7 +4,7 @@ use Rattle.text_parts.proofs.Items.{Reads}
 use Rattle.metric.specs.Draft.{Tag}
 use Rattle.openmetrics_text.specs.Labels.{label_at, AreNamed}
 use Rattle.openmetrics_text.specs.Views.{label_view}
-use Rattle.openmetrics_text.proofs.labels.some_labels_at.Given as goal
+use Rattle.openmetrics_text.proofs.labels.labels_at.Given as goal
 
 abbrev pub invariant-labels : goal.invariant-labels
 invariant-labels l =

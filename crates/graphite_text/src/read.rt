@@ -121,22 +121,6 @@ fn read_text(
     }
 }
 
-/// The metric that a piece is, or none where it has no word.
-fn read_piece(
-    alloc: Global,
-    templates: &[Template],
-    separator: &str,
-    piece: &[u8],
-    moment: Moment,
-) -> Result<Option<Metric>, ReadError<GraphiteFault>>
-    ensures { Gives (λ x. x) result (reading templates.now separator.now piece.now moment) }
-{
-    match utf8_text(piece) {
-        Ok(text) => read_text(alloc, templates, separator, text, moment),
-        Err(offset) => Err(fault(GraphiteKind::NotUtf8, offset)),
-    }
-}
-
 /// Reads a piece without its newline as a line of Graphite's plaintext protocol: a path, a value and perhaps
 /// a time in seconds since 1970, with spaces between them, the path perhaps with tags as carbon 1.1 has them.
 /// The first template that serves the path says what its segments are; where none does, all of them are the
@@ -145,6 +129,7 @@ fn read_piece(
 /// comes before all else; then the first fault of the number of words, of the path, of the value, of the time
 /// and of the number of tags counts, with its offset. `OutOfMemory`, at offset 0, may come in place of any
 /// answer.
+#[tactic(auto, unfolding(crate::specs::Reading::reading))]
 pub fn read_line(
     alloc: Global,
     templates: &[Template],
@@ -154,8 +139,10 @@ pub fn read_line(
 ) -> Result<Option<Metric>, GraphiteFault>
     ensures { Answers result (reading templates.now separator.now piece.now moment) }
 {
-    answer(
-        read_piece(alloc, templates, separator, piece, moment),
-        NO_MEMORY,
-    )
+    let text = utf8_text(piece).map_err(|offset| GraphiteFault {
+        kind: GraphiteKind::NotUtf8,
+        offset,
+    })?;
+    let read = read_text(alloc, templates, separator, text, moment);
+    answer(read, NO_MEMORY)
 }

@@ -98,27 +98,18 @@ fn read_text(
     metric_at(alloc, piece, start, moment)
 }
 
-/// The metric that a piece is, or none where it is blank or a comment.
-fn read_piece(
-    alloc: Global,
-    piece: &[u8],
-    moment: Moment,
-) -> Result<Option<Metric>, ReadError<LineFault>>
-    ensures { Gives (λ x. x) result (reading piece.now moment) }
-{
-    match utf8_text(piece) {
-        Ok(text) => read_text(alloc, text, moment),
-        Err(offset) => Err(fault(LineKind::NotUtf8, offset)),
-    }
-}
-
 /// Reads a piece without its newline as a line of line protocol. `NotUtf8` comes before all else, in comments
 /// too. `None` exactly where the piece is blank (nothing but spaces) or a comment (its first byte other than
 /// a space is `#`). Where the line has no time, the moment is its time. The first fault from left to right
 /// counts, with its offset, which may be the length of the piece; `TooMany` comes last, where the line has no
 /// other fault. `OutOfMemory` may come in place of any answer.
+#[tactic(auto, unfolding(crate::specs::Reading::reading))]
 pub fn read_line(alloc: Global, piece: &[u8], moment: Moment) -> Result<Option<Metric>, LineFault>
     ensures { Answers result (reading piece.now moment) }
 {
-    answer(read_piece(alloc, piece, moment), NO_MEMORY)
+    let text = utf8_text(piece).map_err(|offset| LineFault {
+        kind: LineKind::NotUtf8,
+        offset,
+    })?;
+    answer(read_text(alloc, text, moment), NO_MEMORY)
 }

@@ -125,25 +125,6 @@ fn read_text(
     }
 }
 
-/// The exposition that a piece is.
-fn read_piece(
-    alloc: Global,
-    piece: &[u8],
-    moment: Moment,
-    typed: bool,
-    passing: bool,
-) -> Result<Exposition, ReadError<ExpositionFault>>
-    ensures { Gives (λ x. x) result (reading piece.now moment typed passing) }
-{
-    match utf8_text(piece) {
-        Ok(text) => read_text(alloc, text, moment, typed, passing),
-        Err(offset) => Err(ReadError::Fault(ExpositionFault {
-            kind: ExpositionKind::NotUtf8,
-            offset,
-        })),
-    }
-}
-
 /// Reads a piece as an exposition of OpenMetrics 1.0's text format: lines of metadata and of samples, and at its
 /// end `# EOF`, with or without a newline behind it. Each sample whose number is a decimal gives a metric with the
 /// sample's name, its labels as tags, those with an empty value left out, and the field `value`; a sample whose
@@ -157,6 +138,7 @@ fn read_piece(
 /// or between the braces comes first; then `BadLine`, where the line has another shape, then `BadNumber`,
 /// `BadTime`, `NumberRange`, which no line has with `pass_out_of_range`, and `TooMany`. One fault refuses the
 /// whole. `OutOfMemory`, at offset 0, may come in place of any answer.
+#[tactic(auto, unfolding(crate::specs::Reading::reading))]
 pub fn read_exposition(
     alloc: Global,
     piece: &[u8],
@@ -166,8 +148,10 @@ pub fn read_exposition(
 ) -> Result<Exposition, ExpositionFault>
     ensures { Answers result (reading piece.now moment type_tag pass_out_of_range) }
 {
-    answer(
-        read_piece(alloc, piece, moment, type_tag, pass_out_of_range),
-        NO_MEMORY,
-    )
+    let text = utf8_text(piece).map_err(|offset| ExpositionFault {
+        kind: ExpositionKind::NotUtf8,
+        offset,
+    })?;
+    let read = read_text(alloc, text, moment, type_tag, pass_out_of_range);
+    answer(read, NO_MEMORY)
 }

@@ -52,3 +52,13 @@ pub(crate) fn fault(kind: StatsdKind, offset: usize) -> ReadError<StatsdFault>
 {
     ReadError::Fault(StatsdFault { kind, offset })
 }
+
+/// The fault of a piece that is UTF-8 only up to an offset.
+pub(crate) fn not_utf8(offset: usize) -> StatsdFault
+    ensures { result ≡ record { kind = StatsdKind.NotUtf8; offset = offset } }
+{
+    StatsdFault {
+        kind: StatsdKind::NotUtf8,
+        offset,
+    }
+}

@@ -6,7 +6,7 @@ ghost use Rattle.statsd_text.specs.Reading.{is_blank, line_reading, text_reading
 ghost use Rattle.statsd_text.specs.TagMap.{HasValue, IsKeyed};
 ghost use Rattle.statsd_text.specs.Views.{Answers, AnswersSaid, IsWholeLine, Says, SaysIf};
 
-use crate::fault::{NO_MEMORY, StatsdFault, StatsdKind, fault};
+use crate::fault::{NO_MEMORY, StatsdFault, not_utf8};
 use crate::metrics::{MOST_TAGS, metrics_of};
 use crate::said::{Said, read_parts};
 use crate::sections::sections;
@@ -79,20 +79,6 @@ fn read_text(
     line_metrics(alloc, piece, moment)
 }
 
-/// The metrics of a piece, none where it is blank.
-fn read_piece(
-    alloc: Global,
-    piece: &[u8],
-    moment: Moment,
-) -> Result<Seq<Metric>, ReadError<StatsdFault>>
-    ensures { Gives (λ metrics. metrics) result (reading piece.now moment) }
-{
-    match utf8_text(piece) {
-        Ok(text) => read_text(alloc, text, moment),
-        Err(offset) => Err(fault(StatsdKind::NotUtf8, offset)),
-    }
-}
-
 /// What a text says, where it isn't blank and each metric of it has at most 64 tags.
 #[tactic(auto, unfolding(crate::specs::Reading::text_reading))]
 fn text_said(alloc: Global, piece: &str) -> Result<Option<LineSaid>, ReadError<StatsdFault>>
@@ -110,24 +96,15 @@ fn text_said(alloc: Global, piece: &str) -> Result<Option<LineSaid>, ReadError<S
     }
 }
 
-/// What a piece says, likewise.
-fn piece_said(alloc: Global, piece: &[u8]) -> Result<Option<LineSaid>, ReadError<StatsdFault>>
-    ensures says { SaysIf result (reading piece.now) }
-    ensures whole { IfOk result (λ line. IfSome line IsWholeLine) }
-{
-    match utf8_text(piece) {
-        Ok(text) => text_said(alloc, text),
-        Err(offset) => Err(fault(StatsdKind::NotUtf8, offset)),
-    }
-}
-
 /// What a piece says that `read_line` reads: its metrics, at any moment, are those of its parts. None where it is blank,
 /// or its line has 64 tags or more that have a value: then `read_line` has to be asked. A fault is that of `read_line`.
+#[tactic(auto, unfolding(crate::specs::Reading::reading))]
 pub fn read_said(alloc: Global, piece: &[u8]) -> Result<Option<LineSaid>, StatsdFault>
     ensures says { AnswersSaid result (reading piece.now) }
     ensures whole { IfOk result (λ line. IfSome line IsWholeLine) }
 {
-    answer(piece_said(alloc, piece), NO_MEMORY)
+    let text = utf8_text(piece).map_err(not_utf8)?;
+    answer(text_said(alloc, text), NO_MEMORY)
 }
 
 /// Reads a piece without its newline as a StatsD line: a name with tags, then parts, each a value with its
@@ -137,8 +114,10 @@ pub fn read_said(alloc: Global, piece: &[u8]) -> Result<Option<LineSaid>, Statsd
 /// but its own. `NotUtf8` comes before all else; then the first fault of the head, of the tags
 /// behind `|#`, and of the parts from left to right counts, with its offset; `TooMany` comes last, where there
 /// is no other fault. `OutOfMemory`, at offset 0, may come in place of any answer.
+#[tactic(auto, unfolding(crate::specs::Reading::reading))]
 pub fn read_line(alloc: Global, piece: &[u8], moment: Moment) -> Result<Seq<Metric>, StatsdFault>
     ensures { Answers (λ metrics. metrics) result (reading piece.now moment) }
 {
-    answer(read_piece(alloc, piece, moment), NO_MEMORY)
+    let text = utf8_text(piece).map_err(not_utf8)?;
+    answer(read_text(alloc, text, moment), NO_MEMORY)
 }

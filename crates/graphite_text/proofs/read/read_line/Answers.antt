@@ -1,10 +1,14 @@
-use Rattle.std.proofs.lemmas.Int.{to_z-of_z}
-use mir.Syntax.{w64}
-use Rattle.text_parts.proofs.Utf8Readings.{answers}
-use Rattle.graphite_text.specs.Reading.{reading}
+use Rattle.std.proofs.Common.{◌≡◌, true, rules}
+use Rattle.std.specs.Str.{is_utf8}
+use Rattle.text_parts.proofs.Utf8Readings.{answers, utf8_gives}
+use Rattle.graphite_text.specs.Reading.{text_reading, reading}
 use Rattle.graphite_text.proofs.read.read_line.Goals as goal
 
 pub returns : goal.returns
-returns c = rw c.answer.ensures (answers _ (λ x. x) c.read_piece.result
+unfolding reading
+returns c =
+    let is : (c.in_ok-text.text.now ≡ c.args.piece.now) × (is_utf8 c.args.piece.now ≡ true) = search rules in
+    rw c.answer.ensures (answers _ (λ x. x) c.read_text-read.result
     (reading c.args.templates.now c.args.separator.now c.args.piece.now c.args.moment)
-    (rw (to_z-of_z w64 c.args.moment c.ranges.moment) at c.read_piece.ensures))
+    (utf8_gives (λ x. x) (text_reading c.args.templates.now c.args.separator.now) _ c.args.piece.now
+    c.in_ok-text.text.now c.args.moment c.read_text-read.result is c.ranges.moment c.read_text-read.ensures))

@@ -1,10 +1,18 @@
-use Rattle.std.proofs.lemmas.Int.{to_z-of_z}
-use mir.Syntax.{w64}
-use Rattle.text_parts.proofs.Utf8Readings.{answers}
-use Rattle.openmetrics_text.specs.Reading.{reading}
+use Rattle.std.proofs.Common.{◌≡◌, ℕ, ℤ, true, List, Result, rules}
+use Rattle.std.specs.Str.{is_utf8}
+use Rattle.text_parts.proofs.Utf8Readings.{answers, utf8_gives}
+use Rattle.openmetrics_text.specs.declared.exposition.Exposition.{Exposition}
+use Rattle.openmetrics_text.specs.declared.fault.ExpositionFault.{ExpositionFault}
+use Rattle.openmetrics_text.specs.Reading.{text_reading, reading}
 use Rattle.openmetrics_text.proofs.read.read_exposition.Goals as goal
 
 pub returns : goal.returns
-returns c = rw c.answer.ensures (answers _ (λ x. x) c.read_piece.result
+unfolding reading
+returns c =
+    let is : (c.in_ok-text.text.now ≡ c.args.piece.now) × (is_utf8 c.args.piece.now ≡ true) = search rules in
+    let read : List ℕ → ℤ → Result Exposition ExpositionFault =
+    λ text moment. text_reading text moment c.args.type_tag c.args.pass_out_of_range in
+    rw c.answer.ensures (answers _ (λ x. x) c.read_text-read.result
     (reading c.args.piece.now c.args.moment c.args.type_tag c.args.pass_out_of_range)
-    (rw (to_z-of_z w64 c.args.moment c.ranges.moment) at c.read_piece.ensures))
+    (utf8_gives (λ x. x) read _ c.args.piece.now c.in_ok-text.text.now c.args.moment c.read_text-read.result is
+    c.ranges.moment c.read_text-read.ensures))

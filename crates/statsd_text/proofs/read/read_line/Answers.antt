@@ -1,9 +1,13 @@
-use Rattle.std.proofs.lemmas.Int.{to_z-of_z}
-use mir.Syntax.{w64}
-use Rattle.text_parts.proofs.Utf8Readings.{answers}
-use Rattle.statsd_text.specs.Reading.{reading}
+use Rattle.std.proofs.Common.{◌≡◌, true, rules}
+use Rattle.std.specs.Str.{is_utf8}
+use Rattle.text_parts.proofs.Utf8Readings.{answers, utf8_gives}
+use Rattle.statsd_text.specs.Reading.{text_reading, reading}
 use Rattle.statsd_text.proofs.read.read_line.Goals as goal
 
 pub returns : goal.returns
-returns c = rw c.answer.ensures (answers _ (λ metrics. metrics) c.read_piece.result
-    (reading c.args.piece.now c.args.moment) (rw (to_z-of_z w64 c.args.moment c.ranges.moment) at c.read_piece.ensures))
+unfolding reading
+returns c =
+    let is : (c.in_ok-text.text.now ≡ c.args.piece.now) × (is_utf8 c.args.piece.now ≡ true) = search rules in
+    rw c.answer.ensures (answers _ (λ metrics. metrics) c.read_text.result (reading c.args.piece.now c.args.moment)
+    (utf8_gives (λ metrics. metrics) text_reading _ c.args.piece.now c.in_ok-text.text.now c.args.moment
+    c.read_text.result is c.ranges.moment c.read_text.ensures))

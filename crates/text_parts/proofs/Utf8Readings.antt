@@ -1,7 +1,6 @@
 -- Pieces that are read where they are UTF-8, at a moment that was handed on, and what a reader answers.
 use Rattle.std.proofs.Common.{◌≡◌, ℕ, ℤ, true, false, cond, List, Result, Ok, Err, refl, sym, subst, inl, inr}
 use Rattle.std.specs.Str.{IsUtf8, is_utf8}
-use Rattle.std.specs.Str.Lossy.{utf8_valid_len}
 use Rattle.std.proofs.lemmas.Int.{to_z-of_z}
 use Rattle.std.proofs.lemmas.Str.{IsUtf8-from_is_utf8}
 use mir.Val.{SFits, of_z, to_z}
@@ -14,12 +13,6 @@ use Rattle.text_parts.specs.declared.error.ReadError.TheVariants as errors
 pub isnt_utf8 : (piece : List ℕ) → ¬ (IsUtf8 piece) → is_utf8 piece ≡ false
 isnt_utf8 piece not = elim (is_utf8 piece) as (λ t. is_utf8 piece ≡ t → t ≡ false)
     [ true ↦ λ e. absurd (not (IsUtf8-from_is_utf8 piece e)) | false ↦ λ e. refl ] refl
-
--- the fault is at the end of the longest front that is UTF-8
-pub not_utf8 : {A F : Type 0} (piece : List ℕ) (n : ℕ) (fault : ℕ → F) (reading : Result A F) → is_utf8 piece ≡ false
-    → n ≡ utf8_valid_len piece
-    → cond (is_utf8 piece) reading (Err (fault (utf8_valid_len piece))) ≡ Err (fault n)
-not_utf8 piece n fault reading none len = rw (none, len) refl
 
 pub utf8_read : {A F : Type 0} (read : List ℕ → ℤ → Result A F) (other : Result A F) (piece text : List ℕ) (moment : ℤ)
     → is_utf8 piece ≡ true → text ≡ piece → SFits w64 moment

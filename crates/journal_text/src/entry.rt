@@ -11,7 +11,7 @@ ghost use Rattle.journal_text.specs.Known.{head_as};
 
 use crate::known::Known;
 use crate::metrics::{append_byte, append_metric};
-use crate::route::{Views, append_routed};
+use crate::route::{Outcome, append_routed};
 use account::{Entry, Report};
 use fixed_num::{Moment, OutOfMemory};
 use metric::Metric;
@@ -214,9 +214,9 @@ fn append_head(
             outs,
             ..
         } => {
-            let views = Views::of(aggs, outs);
+            let outcome = Outcome::of(*verdict, aggs, outs);
             append_unsigned(out, "route ", *number)?;
-            append_routed(alloc, out, known, item, whole, *verdict, &views)?;
+            append_routed(alloc, out, known, item, whole, &outcome)?;
             Ok(())
         }
         Entry::Tick { moment, made } => append_made(out, "tick ", moment, made.as_slice().len()),

@@ -13,21 +13,29 @@ use metric::Metric;
 use std::alloc::Global;
 use text_parts::append_words;
 
-/// The views of the whole of a Route.
+/// What became of an item as it was routed.
 #[derive(Clone, Copy)]
-pub(crate) struct Views<'a> {
-    /// At the aggregators.
+pub(crate) struct Outcome<'a> {
+    /// In a word.
+    pub verdict: Verdict,
+    /// What the aggregators see of its whole.
     pub aggs: &'a [Option<Metric>],
-    /// At the outputs.
+    /// What the outputs see of it.
     pub outs: &'a [Option<Metric>],
 }
 
-impl<'a> Views<'a> {
-    /// These views at the aggregators and at the outputs.
-    pub(crate) fn of(aggs: &'a Seq<Option<Metric>>, outs: &'a Seq<Option<Metric>>) -> Views<'a>
-        ensures { (result.aggs.now ≡ aggs.now) × (result.outs.now ≡ outs.now) }
+impl<'a> Outcome<'a> {
+    /// That of a verdict, with the views of the aggregators and of the outputs.
+    pub(crate) fn of(
+        verdict: Verdict,
+        aggs: &'a Seq<Option<Metric>>,
+        outs: &'a Seq<Option<Metric>>,
+    ) -> Outcome<'a>
+        ensures verdict { result.verdict ≡ verdict }
+        ensures views { (result.aggs.now ≡ aggs.now) × (result.outs.now ≡ outs.now) }
     {
-        Views {
+        Outcome {
+            verdict,
             aggs: aggs.as_slice(),
             outs: outs.as_slice(),
         }
@@ -170,20 +178,14 @@ fn append_whole(
 
 // Whether an item went on as it was, to one output and no aggregator: most do.
 #[tactic(auto, unfolding(crate::specs::Known::routed_as))]
-fn is_as_it_was(
-    known: Known,
-    item: &[Metric],
-    whole: &Metric,
-    verdict: Verdict,
-    views: &Views,
-) -> bool
-    ensures { result ≡ true → routed_as known item.now (Some whole.now) verdict views.now.aggs.now views.now.outs.now
-        ≡ codes " = passes / =\n" }
+fn is_as_it_was(known: Known, item: &[Metric], whole: &Metric, outcome: &Outcome) -> bool
+    ensures { result ≡ true → routed_as known item.now (Some whole.now) outcome.now.verdict
+        outcome.now.aggs.now outcome.now.outs.now ≡ codes " = passes / =\n" }
 {
-    verdict == Verdict::Passes
-        && views.aggs.is_empty()
+    outcome.verdict == Verdict::Passes
+        && outcome.aggs.is_empty()
         && is_item(known.whole, item, whole)
-        && is_one_whole(known.outs, whole, views.outs)
+        && is_one_whole(known.outs, whole, outcome.outs)
 }
 
 /// Appends what a Route says behind its item, with what is known of it.
@@ -194,22 +196,21 @@ pub(crate) fn append_routed(
     known: Known,
     item: &[Metric],
     whole: &Option<Metric>,
-    verdict: Verdict,
-    views: &Views,
+    outcome: &Outcome,
 ) -> Result<(), OutOfMemory>
     ensures { Adds result out.old.items out.new.items
-        (routed_as known item.now whole.now verdict views.now.aggs.now views.now.outs.now) }
+        (routed_as known item.now whole.now outcome.now.verdict outcome.now.aggs.now outcome.now.outs.now) }
 {
     let Some(whole) = whole else {
         append_words(out, " - removed\n")?;
         return Ok(());
     };
-    if is_as_it_was(known, item, whole, verdict, views) {
+    if is_as_it_was(known, item, whole, outcome) {
         append_words(out, " = passes / =\n")?;
         return Ok(());
     }
-    append_whole(alloc, out, known.whole, item, whole, verdict)?;
-    append_views(alloc, out, known.aggs, whole, views.aggs)?;
-    append_outs(alloc, out, known.outs, whole, views.outs)?;
+    append_whole(alloc, out, known.whole, item, whole, outcome.verdict)?;
+    append_views(alloc, out, known.aggs, whole, outcome.aggs)?;
+    append_outs(alloc, out, known.outs, whole, outcome.outs)?;
     Ok(())
 }

@@ -11,7 +11,6 @@ use Rattle.account.specs.declared.entry.Entry.{Entry}
 use Rattle.account.specs.Items.{items, routes, named_by}
 use Rattle.account.specs.Says.{reports_of}
 use Rattle.metric.specs.declared.metric.Content.{Content}
-use Rattle.agent_base.specs.Counts.{Rose}
 use Rattle.agent_workers.proofs.RoseLemmas.{rose_from}
 use Rattle.journal_text.specs.declared.setup.JournalSetup.{JournalSetup}
 use Rattle.journal_text.specs.JournalText.{HasItem, metric_line, metric_lines, report_lines}

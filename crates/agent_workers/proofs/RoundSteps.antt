@@ -40,7 +40,6 @@ use Rattle.agent_workers.proofs.FinishSteps.{counts_one, counts_then}
 use Rattle.agent_workers.proofs.ProgressLemmas.{went_fewer, went_unticked}
 use Rattle.agent_workers.proofs.OutLemmas.{ready_same}
 use Rattle.agent_workers.specs.Running.{AreOutOrFull, IsOutOrHeld}
-use Rattle.pipeline_core.specs.Stands.{HasJournal}
 use Rattle.track_groups.specs.Tracker.{TrackerState, live_of}
 use Rattle.std.specs.Prelude.{slice_get, All}
 use Rattle.agent_workers.specs.Inputs.{IsOut}

@@ -212,6 +212,7 @@ pub fn route_some<C: Drop>(
     ensures rests { OnOk result (IsAtRest core.new) }
     ensures kept { OnOk result (IsRoutable core.old core.new) }
     ensures none { result ≡ Ok false → core.new.raw ≡ [] }
+    ensures fewer { result ≡ Ok true → length core.new.raw + most ≡ length core.old.raw }
     ensures same { IsSameProc (proc_of proc.old) (proc_of proc.new) }
     ensures goes { OnOk result (GoesOn core.old core.new (proc_of proc.old) (proc_of proc.new)) }
 {

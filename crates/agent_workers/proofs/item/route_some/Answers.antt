@@ -1,4 +1,4 @@
-use Rattle.std.proofs.Common.{refl}
+use Rattle.std.proofs.Common.{ap, arith, refl, Ok}
 use Rattle.agent_workers.specs.Item.{proc_of}
 use Rattle.agent_workers.proofs.RoundSteps.{goes_more}
 use Rattle.agent_workers.proofs.OutLemmas.{routable_same, routable_more}
@@ -14,6 +14,7 @@ pub loop-taken-init : goal.loop-taken-init
 loop-taken-init g c = record {
   rests = c.requires.rests;
   kept = routable_same c.args.core.now c.args.core.now refl refl refl refl refl (λ all. all);
+  fewer = omega arith;
   same = proc_itself (proc_of c.args.proc.now);
   goes = λ start now ticked anew stays w.
       went_open start (record now { core = c.args.core.now; proc = proc_of c.args.proc.now }) ticked
@@ -25,6 +26,11 @@ loop-taken-preserved g c = record {
   rests = c.in_ok-route_next.ensures.rests;
   kept = routable_more c.args.core.now c.loop-taken.core c.route_next.new.core c.loop-taken.invariant.kept
       c.in_ok-route_next.ensures.kept;
+  fewer = omega (
+    arith,
+    c.loop-taken.invariant.fewer,
+    c.in_ok-route_next.ensures.fewer (ap Ok c.if-not-branch.false),
+  );
   same = same_proc (proc_of c.args.proc.now) (proc_of c.loop-taken.proc) (proc_of c.route_next.new.proc)
       c.loop-taken.invariant.same c.route_next.ensures.same;
   goes = goes_more c.args.core.now c.loop-taken.core c.route_next.new.core (proc_of c.args.proc.now)

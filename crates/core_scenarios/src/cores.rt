@@ -2,7 +2,7 @@
 ghost use Rattle.std.specs.Prelude.{◌≤◌};
 ghost use Rattle.account.specs.Views.{HasViews};
 
-use crate::{Calls, metric, next};
+use crate::{Calls, metric, next, shown};
 use account::Entry;
 use fixed_num::Seq;
 use metric::Metric;
@@ -182,6 +182,7 @@ impl Calls for CoreCalls {
             }
             "pass" => self.pass(alloc, words.next().unwrap_or(""))?,
             "remove" => self.route(alloc, None, vec![in alloc; None, None]?)?,
+            "raw" => return shown(alloc, self.core.has_raw()),
             "account" => {
                 let mut text = Vec::new(alloc);
                 self.core.account().text(&mut text)?;

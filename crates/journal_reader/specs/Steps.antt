@@ -23,6 +23,7 @@ starting s line = do
 abbrev pub is_none_yet : {A : Type 0} → List A → Bool
 is_none_yet xs = length xs == 0
 
+-- the set-up has an input more, with how many of its groups may be undelivered where it is tracked
 abbrev pub with_input : State → Option ℕ → State
 with_input s most = record s { setup = record s.setup { inputs = s.setup.inputs ++ most ∷ [] } }
 
@@ -33,6 +34,7 @@ set_input s line =
       most ← input_in (length s.setup.inputs) (words_of line)
       Some (with_input s most))
 
+-- or an aggregator more
 abbrev pub with_agg : State → AggLine → State
 with_agg s agg = record s { setup = record s.setup { aggs = s.setup.aggs ++ agg ∷ [] } }
 
@@ -43,6 +45,7 @@ set_agg s line =
       agg ← agg_in (length s.setup.aggs) (words_of line)
       Some (with_agg s agg))
 
+-- or an output more, of these sizes
 abbrev pub with_output : State → ℕ × ℕ → State
 with_output s sizes = record s { setup = record s.setup { outputs = s.setup.outputs ++ sizes ∷ [] } }
 

@@ -1,16 +1,16 @@
 -- What is left where each part is kept, and where a part more was looked at.
-use Rattle.std.proofs.Common.{◌≡◌, ◌<◌, ◌≤◌, ◌+◌, ◌++◌, ℕ, Bool, true, false, List, [], ◌∷◌, length}
+use Rattle.std.proofs.Common.{◌≡◌, ◌<◌, ◌≤◌, ◌+◌, ◌++◌, ℕ, true, false, List, [], ◌∷◌, length}
 use Rattle.std.proofs.Common.{drop, get_or, refl, sym, ap, ◌∙◌, append_assoc}
 use Rattle.std.proofs.lemmas.Bool.{and_parts}
 use Rattle.std.proofs.lemmas.List.{drop_more, drop_all, append-nil}
 use Rattle.metric.specs.declared.glob.Element.{Element}
 use Rattle.metric.specs.declared.metric.Content.{Content}
 use Rattle.metric_filter.specs.declared.rules.FilterRules.{FilterRules}
-use Rattle.metric_filter.specs.Filter.{applied, has_no_rule, keeps, keeps_each, kept, leaves_all_parts, left, selects}
-use Rattle.metric_filter.specs.Filter.{with_fields, GivesItself}
+use Rattle.metric_filter.specs.Filter.{applied, has_no_rule, keeps, keeps_all, keeps_each, kept, left, selects}
+use Rattle.metric_filter.specs.Filter.{with_fields}
 use Rattle.metric.specs.Metric.{IsMetric}
 use Rattle.metric.proofs.KeptLemmas.{kept as is_kept}
-use Rattle.std.specs.Prelude.{◌==◌, IfSome, if◌then◌else◌, Option, None}
+use Rattle.std.specs.Prelude.{◌==◌}
 use Rattle.std.proofs.lemmas.Bool.{eqb-false, eqb-true, ne_eqb}
 use Rattle.std.proofs.Common.{arith, subst, ℤ, suc, Some}
 use Rattle.metric.specs.declared.value.Value.{Value}
@@ -48,7 +48,7 @@ module _ {X : Type 0} (include exclude : List (List Element)) where
       sym (append-nil items)
       ∙ ap (λ ps. items ++ ps) (ap (kept include exclude) (sym (drop_all i pairs past))) ∙ h
 
-pub left_whole : (rules : FilterRules) (m : Content)
+left_whole : (rules : FilterRules) (m : Content)
     → keeps_each rules.fieldinclude rules.fieldexclude m.fields ≡ true
     → keeps_each rules.taginclude rules.tagexclude m.tags ≡ true → left rules m ≡ m
 left_whole rules m fields tags =
@@ -57,13 +57,19 @@ left_whole rules m fields tags =
       kept_all rules.taginclude rules.tagexclude m.tags tags,
     ) refl
 
-pub carried : {X : Type 0} (answer : Bool) (include include' exclude exclude' : List (List Element))
-    (pairs pairs' : List (List ℕ × X)) → answer ≡ keeps_each include exclude pairs
-    → include ≡ include' → exclude ≡ exclude' → pairs ≡ pairs' → answer ≡ true
-    → keeps_each include' exclude' pairs' ≡ true
-carried answer include include' exclude exclude' pairs pairs' e i x p t =
-    sym (ap (λ i. keeps_each i exclude pairs) i ∙ ap (λ x. keeps_each include' x pairs) x
-    ∙ ap (λ p. keeps_each include' exclude' p) p) ∙ sym e ∙ t
+-- where each part is kept that is the metric
+pub all_left : (rules : FilterRules) (m : Content) → keeps_all rules m ≡ true → left rules m ≡ m
+all_left rules m all =
+    let both = and_parts (keeps_each rules.fieldinclude rules.fieldexclude m.fields)
+    (keeps_each rules.taginclude rules.tagexclude m.tags) all in
+    left_whole rules m both.0 both.1
+
+-- so it is a metric that is left
+pub left_itself : (rules : FilterRules) (m : Content) → keeps_all rules m ≡ true → 0 < length m.fields
+    → with_fields (left rules m) ≡ Some m
+left_itself rules m all some =
+    let filled : (length m.fields == 0) ≡ false = ne_eqb (length m.fields) 0 (λ z. absurd (omega (arith, z, some))) in
+    ap with_fields (all_left rules m all) ∙ rw filled refl
 
 -- what is left is a metric's, where a field is left
 pub left_metric : (rules : FilterRules) (m : Content) (name : List ℕ) (tags : List (List ℕ × List ℕ))
@@ -96,10 +102,10 @@ all_kept : {X : Type 0} (pairs : List (List ℕ × X)) → keeps_each [] [] pair
 all_kept [] = refl
 all_kept (pair ∷ pairs) = all_kept pairs
 
--- gives each metric as it is
-pub no_rule_applied : (rules : FilterRules) (m : Content) → has_no_rule rules ≡ true → 0 < length m.fields
-    → applied rules m ≡ Some m
-no_rule_applied rules m h some =
+-- keeps each part of a metric, and selects it
+no_rule_all : (rules : FilterRules) (m : Content) → has_no_rule rules ≡ true
+    → (selects rules m ≡ true) × (keeps_all rules m ≡ true)
+no_rule_all rules m h =
     let a = and_parts _ (length rules.tagexclude == 0) h in
     let b = and_parts _ (length rules.taginclude == 0) a.0 in
     let c = and_parts _ (length rules.fieldexclude == 0) b.0 in
@@ -107,33 +113,20 @@ no_rule_applied rules m h some =
     let e = and_parts _ (length rules.tagdrop == 0) d.0 in
     let f = and_parts _ (length rules.tagpass == 0) e.0 in
     let g = and_parts (length rules.namepass == 0) (length rules.namedrop == 0) f.0 in
-    let selected : selects rules m ≡ true =
-    rw (none_of rules.namepass g.0, none_of rules.namedrop g.1, none_of rules.tagpass f.1, none_of rules.tagdrop e.1)
-    refl in
     let fields : keeps_each rules.fieldinclude rules.fieldexclude m.fields ≡ true =
     rw (none_of rules.fieldinclude d.1, none_of rules.fieldexclude c.1) (all_kept m.fields) in
     let tags : keeps_each rules.taginclude rules.tagexclude m.tags ≡ true =
-    rw (none_of rules.taginclude b.1, none_of rules.tagexclude a.1) (all_kept m.tags) in
-    let filled : (length m.fields == 0) ≡ false = ne_eqb (length m.fields) 0 (λ z. absurd (omega (arith, z, some))) in
-    rw selected (ap with_fields (left_whole rules m fields tags) ∙ rw filled refl)
+    rw (none_of rules.taginclude b.1, none_of rules.tagexclude a.1) (all_kept m.tags) in (
+      rw (none_of rules.namepass g.0, none_of rules.namedrop g.1, none_of rules.tagpass f.1, none_of rules.tagdrop e.1)
+          refl,
+      rw (fields, tags) refl,
+    )
 
--- ---- a filter without rules for fields and tags
+pub no_rule_keeps_all : (rules : FilterRules) (m : Content) → has_no_rule rules ≡ true → keeps_all rules m ≡ true
+no_rule_keeps_all rules m h = (no_rule_all rules m h).1
 
-selected_so : (selected empty : Bool) (m : Content)
-    → IfSome (if selected then (if empty then None else Some m) else None) (λ (view : Content). view ≡ m)
-selected_so true true m = tt
-selected_so true false m = refl
-selected_so false empty m = tt
-
--- gives a metric as it is, or nothing
-pub gives_itself : (rules : FilterRules) → leaves_all_parts rules ≡ true → GivesItself (applied rules)
-gives_itself rules h m =
-    let a = and_parts _ (length rules.tagexclude == 0) h in
-    let b = and_parts _ (length rules.taginclude == 0) a.0 in
-    let c = and_parts (length rules.fieldinclude == 0) (length rules.fieldexclude == 0) b.0 in
-    let fields : keeps_each rules.fieldinclude rules.fieldexclude m.fields ≡ true =
-    rw (none_of rules.fieldinclude c.0, none_of rules.fieldexclude c.1) (all_kept m.fields) in
-    let tags : keeps_each rules.taginclude rules.tagexclude m.tags ≡ true =
-    rw (none_of rules.taginclude b.1, none_of rules.tagexclude a.1) (all_kept m.tags) in
-    subst (λ (l : Content). IfSome (if selects rules m then with_fields l else None) (λ (view : Content). view ≡ m))
-    (sym (left_whole rules m fields tags)) (selected_so (selects rules m) (length m.fields == 0) m)
+-- so it gives it as it is
+pub no_rule_applied : (rules : FilterRules) (m : Content) → has_no_rule rules ≡ true → 0 < length m.fields
+    → applied rules m ≡ Some m
+no_rule_applied rules m h some =
+    let all = no_rule_all rules m h in rw all.0 (left_itself rules m all.1 some)

@@ -1,5 +1,5 @@
 -- What a filter lets pass, and what it leaves of it.
-use Rattle.std.specs.Prelude.{◌≡◌, IfSome, ◌==◌, ◌&&◌, ◌||◌, ℕ, Bool, false, not, List, [], length, filter, chars}
+use Rattle.std.specs.Prelude.{◌==◌, ◌&&◌, ◌||◌, ℕ, Bool, false, not, List, [], length, filter, chars}
 use Rattle.std.specs.Prelude.{Option, Some, None, if◌then◌else◌}
 use Rattle.std.specs.List.{list_any, list_all}
 use Rattle.metric.specs.Glob.{matches}
@@ -50,6 +50,11 @@ abbrev pub kept : {X : Type 0}
     → List (List Element) → List (List Element) → List (List ℕ × X) → List (List ℕ × X)
 kept include exclude pairs = filter (λ pair. keeps include exclude pair.0) pairs
 
+-- is each field and each tag of a metric kept
+abbrev pub keeps_all : FilterRules → Content → Bool
+keeps_all rules m =
+    keeps_each rules.fieldinclude rules.fieldexclude m.fields && keeps_each rules.taginclude rules.tagexclude m.tags
+
 -- the metric with the fields and the tags that are kept
 abbrev pub left : FilterRules → Content → Content
 left rules m = record m {
@@ -85,13 +90,3 @@ has_no_rule rules =
     && length rules.tagpass == 0 && length rules.tagdrop == 0
     && length rules.fieldinclude == 0 && length rules.fieldexclude == 0
     && length rules.taginclude == 0 && length rules.tagexclude == 0
-
--- does a filter leave each part of what it selects: no rule of it is for fields or tags that are left out
-abbrev pub leaves_all_parts : FilterRules → Bool
-leaves_all_parts rules =
-    length rules.fieldinclude == 0 && length rules.fieldexclude == 0
-    && length rules.taginclude == 0 && length rules.tagexclude == 0
-
--- what it gives for a metric, if anything, is the metric
-abbrev pub GivesItself : (Content → Option Content) → Type 0
-GivesItself filter = (m : Content) → IfSome (filter m) (λ (view : Content). view ≡ m)

@@ -1,8 +1,12 @@
 //! Filters.
-ghost use Rattle.std.specs.Prelude.{◌≡◌, true, IfOk, Some};
-ghost use Rattle.metric_filter.specs.Filter.{applied, has_no_rule, leaves_all_parts, left, no_rules};
+ghost use Rattle.std.specs.Prelude.{◌≡◌, true, IfOk, IfSome, Some};
+ghost use Rattle.std.specs.Option.{option_map};
+ghost use Rattle.metric_filter.specs.Filter.{applied, has_no_rule, keeps_all, left, no_rules};
 ghost use Rattle.metric_filter.specs.Filter.{selects, with_fields};
+ghost use Rattle.metric_filter.specs.Kept.{is_same, metric_of, IsKeptOf};
+ghost use Rattle.metric_filter.specs.declared.kept.Kept.TheVariants.{Same};
 
+use crate::kept::Kept;
 use crate::left::{keeps_all, left};
 use crate::rules::{FilterRules, passes, some_matches, some_tag, tags_pass};
 use fixed_num::{OutOfMemory, Seq};
@@ -91,10 +95,12 @@ impl Filter {
     }
 
     /// What is left of a metric: None exactly where it isn't selected or no field is left; else the metric
-    /// with the fields and tags that are included and not excluded, in their order. Where nothing is left
-    /// out the answer shares the metric's content.
-    pub fn apply(&self, m: &Metric) -> Result<Option<Metric>, OutOfMemory>
-        ensures { IfOk result (λ answer. answer ≡ applied self.now m.now) }
+    /// with the fields and tags that are included and not excluded, in their order. It is `Same` exactly where nothing is
+    /// left out, and shares the metric's content then.
+    pub fn apply(&self, m: &Metric) -> Result<Option<Kept>, OutOfMemory>
+        ensures answer { IfOk result (λ answer. option_map metric_of answer ≡ applied self.now m.now) }
+        ensures same { IfOk result (λ answer. IfSome answer (λ kept. is_same kept ≡ keeps_all self.now m.now)) }
+        ensures itself { IfOk result (λ answer. IfSome answer (IsKeptOf m.now)) }
     {
         if !self.selects(m) {
             return Ok(None);
@@ -104,16 +110,21 @@ impl Filter {
 
     /// What the tests of fields and tags leave of a metric, which is given up, whether or not it is selected: None exactly
     /// where no field is left; else the metric with the fields and tags that are included and not excluded, in their
-    /// order. Where nothing is left out that is the metric itself.
-    pub fn left_of(&self, m: Metric) -> Result<Option<Metric>, OutOfMemory>
-        ensures { IfOk result (λ answer. answer ≡ with_fields (left self.now m)) }
+    /// order. It is `Same` exactly where nothing is left out.
+    pub fn left_of(&self, m: Metric) -> Result<Option<Kept>, OutOfMemory>
+        ensures answer { IfOk result (λ answer. option_map metric_of answer ≡ with_fields (left self.now m)) }
+        ensures same { IfOk result (λ answer. IfSome answer (λ kept. is_same kept ≡ keeps_all self.now m)) }
+        ensures itself { IfOk result (λ answer. IfSome answer (IsKeptOf m)) }
     {
         m.shows_metric();
         let rules = &self.rules;
         if keeps_all(rules, &m) {
-            return Ok(Some(m));
+            return Ok(Some(Kept::Same(m)));
         }
-        left(self.alloc, rules, &m)
+        match left(self.alloc, rules, &m)? {
+            Some(left) => Ok(Some(Kept::Changed(left))),
+            None => Ok(None),
+        }
     }
 
     /// Has the filter no rule?
@@ -123,26 +134,16 @@ impl Filter {
         self.no_rule
     }
 
-    /// Does it leave each part of the metrics that it selects? Then what `apply` gives for a metric is the metric, or
-    /// nothing (`all_parts_left`).
-    pub fn leaves_all_parts(&self) -> bool
-        ensures { result ≡ leaves_all_parts self.now }
-    {
-        let rules = &self.rules;
-        rules.fieldinclude.as_slice().is_empty()
-            && rules.fieldexclude.as_slice().is_empty()
-            && rules.taginclude.as_slice().is_empty()
-            && rules.tagexclude.as_slice().is_empty()
-    }
-
     /// What `apply` gives for the metric, which is given up; where the filter has no rule that is the metric itself.
-    pub fn apply_to(&self, m: Metric) -> Result<Option<Metric>, OutOfMemory>
-        ensures applied { IfOk result (λ answer. answer ≡ applied self.now m) }
-        ensures unchanged { has_no_rule self.now ≡ true → IfOk result (λ answer. answer ≡ Some m) }
+    pub fn apply_to(&self, m: Metric) -> Result<Option<Kept>, OutOfMemory>
+        ensures answer { IfOk result (λ answer. option_map metric_of answer ≡ applied self.now m) }
+        ensures same { IfOk result (λ answer. IfSome answer (λ kept. is_same kept ≡ keeps_all self.now m)) }
+        ensures itself { IfOk result (λ answer. IfSome answer (IsKeptOf m)) }
+        ensures unchanged { has_no_rule self.now ≡ true → IfOk result (λ answer. answer ≡ Some (Same m)) }
     {
         m.shows_metric();
         if self.has_no_rule() {
-            return Ok(Some(m));
+            return Ok(Some(Kept::Same(m)));
         }
         if !self.selects(&m) {
             return Ok(None);

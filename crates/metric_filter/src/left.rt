@@ -1,6 +1,6 @@
 //! What a filter leaves of a metric.
-ghost use Rattle.std.specs.Prelude.{◌≡◌, IfOk, IsTrue};
-ghost use Rattle.metric_filter.specs.Filter.{keeps_each, kept, left, with_fields};
+ghost use Rattle.std.specs.Prelude.{◌≡◌, IfOk};
+ghost use Rattle.metric_filter.specs.Filter.{keeps_all, keeps_each, kept, left, with_fields};
 
 use crate::rules::{FilterRules, keeps};
 use fixed_num::{OutOfMemory, Seq};
@@ -9,7 +9,7 @@ use std::alloc::Global;
 
 /// Is each field and each tag left?
 pub(crate) fn keeps_all(rules: &FilterRules, m: &Metric) -> bool
-    ensures { IsTrue result → left rules.now m.now ≡ m.now }
+    ensures { result ≡ keeps_all rules.now m.now }
 {
     let (include, exclude) = (rules.fieldinclude.as_slice(), rules.fieldexclude.as_slice());
     if !keeps_each(include, exclude, m.fields()) {

@@ -2,10 +2,10 @@
 #![tactic(auto)]
 
 mod filter;
-mod laws;
+mod kept;
 mod left;
 mod rules;
 
 pub use filter::Filter;
-pub use laws::all_parts_left;
+pub use kept::Kept;
 pub use rules::FilterRules;

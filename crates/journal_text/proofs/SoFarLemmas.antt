@@ -1,6 +1,6 @@
 -- A journal's text so far, entry by entry.
 use Rattle.std.proofs.Common.{◌≡◌, ◌≤◌, ◌<◌, ◌+◌, ℕ, zero, suc, List, [], ◌∷◌, ◌++◌, length, drop, refl, sym, ap, ◌∙◌}
-use Rattle.std.proofs.Common.{arith, append-nil, ◌==◌, false, take, get_or, subst, append_assoc}
+use Rattle.std.proofs.Common.{arith, append-nil, length-drop, ◌==◌, false, take, get_or, subst, append_assoc}
 use Rattle.std.specs.List.{slice_get}
 use Rattle.std.specs.Option.{option_to_list}
 use Rattle.metric.specs.declared.metric.Content.{Content}
@@ -12,16 +12,19 @@ use Rattle.account.specs.Says.{reports_of}
 use Rattle.account.specs.Routes.{IsNextRoute, RoutesInOrder, RouteOnInOrder}
 use Rattle.std.specs.Prelude.{◌≢◌}
 use Rattle.std.proofs.lemmas.Bool.{ne_eqb}
-use Rattle.std.proofs.lemmas.List.{drop_at, drop_more, take_more, take_all}
+use Rattle.std.proofs.lemmas.List.{drop_at, drop_more, drop-append-le, drop-drop, drop_all, take_more, take_all}
 use Rattle.journal_text.specs.declared.setup.JournalSetup.{JournalSetup}
 use Rattle.journal_text.specs.SetupText.{setup_text}
-use Rattle.journal_text.specs.Known.{IsKnown, AreKnown, entry_as}
+use Rattle.journal_text.specs.Known.{known_of, IsKnown, IsKnownRoute, AreKnown, entry_as}
+use Rattle.account.specs.declared.entry.Report.{Report}
+use Rattle.account.specs.declared.entry.Verdict.{Verdict}
+use Rattle.std.specs.declared.option.Option.{Option}
 use Rattle.journal_text.specs.declared.known.Known.{Known}
 use Rattle.journal_text.proofs.JournalLemmas.{entries_text-append}
 use Rattle.journal_text.proofs.KnownLemmas.{known_stays}
 use Rattle.journal_text.specs.SoFar.{text_so_far, noted_text, front_text, IsSpelled, SpellsOn}
 use Rattle.account.proofs.ItemLemmas.{items-push}
-use Rattle.account.proofs.RouteLemmas.{order_after, in_order-push, unrouted-push, next_of, alone}
+use Rattle.account.proofs.RouteLemmas.{order_after, in_order-push, routes-push, unrouted-push, next_of, alone}
 
 -- the first of those that a drop leaves is the one at its place
 first_left : {X : Type 0} (all item rest : List X) (n : ℕ) → length item ≡ 1 → drop n all ≡ item ++ rest
@@ -72,12 +75,12 @@ unfolding entries_text
 no_entries known = refl
 
 -- what is known of an entry is so, and of those behind it
-known_next : (known : Known) (named : List Content) (e : Entry) (es : List Entry) → AreKnown known named (e ∷ es)
-    → IsKnown known (item_of named e) e × AreKnown known (named ++ named_by e) es
+known_next : (known : List Known) (named : List Content) (e : Entry) (es : List Entry) → AreKnown known named (e ∷ es)
+    → IsKnown (known_of known e) (item_of named e) e × AreKnown (drop (routes_by e) known) (named ++ named_by e) es
 unfolding AreKnown
 known_next known named e es h = h
 
-known_alone : (known : Known) (named : List Content) (e : Entry) → IsKnown known (item_of named e) e
+known_alone : (known : List Known) (named : List Content) (e : Entry) → IsKnown (known_of known e) (item_of named e) e
     → AreKnown known named (e ∷ [])
 unfolding AreKnown
 known_alone known named e h = (h, tt)
@@ -91,8 +94,8 @@ entry_stays known item e h =
     (known_stays known item e h)
 
 -- one entry, where its item is at hand
-pub spells_entry : (known : Known) (e : Entry) (item kept left : List Content) (text new_text : List ℕ) → HasItem item e
-    → kept ++ named_by e ≡ item ++ left → new_text ≡ text ++ entry_as known item e
+pub spells_entry : (known : List Known) (e : Entry) (item kept left : List Content) (text new_text : List ℕ) → HasItem item e
+    → kept ++ named_by e ≡ item ++ left → new_text ≡ text ++ entry_as (known_of known e) item e
     → SpellsOn known (e ∷ []) kept left text new_text
 spells_entry known e item kept left text new_text has rest is journal kept_is order more so =
     let next = (next_of (routes journal) (length (items journal)) e [] more).0 in
@@ -100,12 +103,13 @@ spells_entry known e item kept left text new_text has rest is journal kept_is or
     ap (λ (xs : List Content). xs ++ named_by e) (sym kept_is) ∙ rest in
     let its : item ≡ item_of (items journal) e = item_is (items journal) item left (routes journal)
     (length (items journal)) e next has at_hand in
-    let known_so : IsKnown known item e = subst (λ (i : List Content). IsKnown known i e) (sym its)
+    let known_so : IsKnown (known_of known e) item e =
+    subst (λ (i : List Content). IsKnown (known_of known e) i e) (sym its)
     (known_next known (items journal) e [] so).0 in
     record {
       left_are = sym (drop_at item left (routes_by e) (has_length item e has)) ∙ ap (drop (routes_by e)) (sym at_hand)
           ∙ sym (unrouted-push journal e order);
-      spelled = is ∙ ap (λ (t : List ℕ). text ++ t) (entry_stays known item e known_so)
+      spelled = is ∙ ap (λ (t : List ℕ). text ++ t) (entry_stays (known_of known e) item e known_so)
           ∙ ap (λ (i : List Content). text ++ entry_text i e) its
           ∙ ap (λ (t : List ℕ). text ++ t) (sym (one_entry (items journal) e));
       in_order = in_order-push journal e order next;
@@ -113,14 +117,18 @@ spells_entry known e item kept left text new_text has rest is journal kept_is or
 
 -- the first so many of the entries were spelled, and the Routes of the others come in order, and what is known of them
 -- is so
-abbrev pub SpellsFirst : Known → ℕ → List Entry → List Content → List Content → List ℕ → List ℕ → Type 0
+abbrev pub SpellsFirst : List Known → ℕ → List Entry → List Content → List Content → List ℕ → List ℕ → Type 0
 SpellsFirst known n entries kept left text new_text =
     (journal : List Entry) → kept ≡ unrouted_items journal → RoutesInOrder 0 0 journal → RouteOnInOrder journal entries
     → AreKnown known (items journal) entries → IsSpelled journal (take n entries) left text new_text
     × RouteOnInOrder (journal ++ take n entries) (drop n entries)
-    × AreKnown known (items (journal ++ take n entries)) (drop n entries)
+    × AreKnown (drop (routes (take n entries)) known) (items (journal ++ take n entries)) (drop n entries)
 
-pub spells_no_more : (known : Known) (entries : List Entry) (kept : List Content) (text : List ℕ)
+none_routed : routes [] ≡ 0
+unfolding routes
+none_routed = refl
+
+pub spells_no_more : (known : List Known) (entries : List Entry) (kept : List Content) (text : List ℕ)
     → SpellsFirst known 0 entries kept kept text text
 spells_no_more known entries kept text journal kept_is order more so = (
   record {
@@ -129,7 +137,8 @@ spells_no_more known entries kept text journal kept_is order more so = (
     in_order = subst (RoutesInOrder 0 0) (sym (append-nil journal)) order;
   },
   subst (λ (p : List Entry). RouteOnInOrder p entries) (sym (append-nil journal)) more,
-  subst (λ (p : List Entry). AreKnown known (items p) entries) (sym (append-nil journal)) so,
+  subst (λ (all : List Known). AreKnown all (items (journal ++ [])) entries) (ap (λ (m : ℕ). drop m known) (sym none_routed))
+      (subst (λ (p : List Entry). AreKnown known (items p) entries) (sym (append-nil journal)) so),
 )
 
 pub items-append : (es more : List Entry) → items (es ++ more) ≡ items es ++ items more
@@ -145,9 +154,9 @@ text_behind journal es more =
     entries_text-append (items journal) es more ∙ ap (λ (known : List Content). entries_text (items journal) es
     ++ entries_text known more) (sym (items-append journal es))
 
-pub spells_more : (known : Known) (n : ℕ) (entries : List Entry) (e : Entry) (kept mid left : List Content)
+pub spells_more : (known : List Known) (n : ℕ) (entries : List Entry) (e : Entry) (kept mid left : List Content)
     (text mid_text new_text : List ℕ) → n < length entries → e ≡ get_or entries n e
-    → SpellsFirst known n entries kept mid text mid_text → SpellsOn known (e ∷ []) mid left mid_text new_text
+    → SpellsFirst known n entries kept mid text mid_text → SpellsOn (drop (routes (take n entries)) known) (e ∷ []) mid left mid_text new_text
     → SpellsFirst known (n + 1) entries kept left text new_text
 spells_more known n entries e kept mid left text mid_text new_text l is first one journal kept_is order more known_so =
     let so = first journal kept_is order more known_so in
@@ -160,10 +169,14 @@ spells_more known n entries e kept mid left text mid_text new_text l is first on
     ap (λ (x : Entry). take n entries ++ x ∷ []) is ∙ sym (take_more entries n e l) in
     let grown : front ++ e ∷ [] ≡ journal ++ take (n + 1) entries =
     append_assoc journal (take n entries) (e ∷ []) ∙ ap (λ (es : List Entry). journal ++ es) behind in
-    let its = known_next known (items front) e (drop (n + 1) entries)
-    (subst (λ (es : List Entry). AreKnown known (items front) es) split so.2) in
+    let rest : List Known = drop (routes (take n entries)) known in
+    let its = known_next rest (items front) e (drop (n + 1) entries)
+    (subst (λ (es : List Entry). AreKnown rest (items front) es) split so.2) in
+    let rest_is : drop (routes_by e) rest ≡ drop (routes (take (n + 1) entries)) known =
+    drop-drop (routes_by e) (routes (take n entries)) known ∙ ap (λ (m : ℕ). drop m known)
+    (sym (routes-push (take n entries) e) ∙ ap routes behind) in
     let last = one front so.0.left_are so.0.in_order (alone (routes front) (length (items front)) e next.0)
-    (known_alone known (items front) e its.0) in (
+    (known_alone rest (items front) e its.0) in (
       record {
         left_are = last.left_are ∙ ap unrouted_items grown;
         spelled = last.spelled ∙ ap (λ (t : List ℕ). t ++ entries_text (items front) (e ∷ [])) so.0.spelled
@@ -174,12 +187,13 @@ spells_more known n entries e kept mid left text mid_text new_text l is first on
       },
       subst (λ (p : List Entry). RouteOnInOrder p (drop (n + 1) entries)) grown
           (order_after front e (drop (n + 1) entries) next.1),
-      subst (λ (p : List Entry). AreKnown known (items p) (drop (n + 1) entries)) grown
-          (subst (λ (named : List Content). AreKnown known named (drop (n + 1) entries)) (sym
-          (items-push front e)) its.1),
+      subst (λ (all : List Known). AreKnown all (items (journal ++ take (n + 1) entries)) (drop (n + 1) entries)) rest_is
+          (subst (λ (p : List Entry). AreKnown (drop (routes_by e) rest) (items p) (drop (n + 1) entries)) grown
+          (subst (λ (named : List Content). AreKnown (drop (routes_by e) rest) named (drop (n + 1) entries)) (sym
+          (items-push front e)) its.1)),
     )
 
-pub spells_all : (known : Known) (n : ℕ) (entries : List Entry) (kept left : List Content) (text new_text : List ℕ)
+pub spells_all : (known : List Known) (n : ℕ) (entries : List Entry) (kept left : List Content) (text new_text : List ℕ)
     → length entries ≤ n → SpellsFirst known n entries kept left text new_text
     → SpellsOn known entries kept left text new_text
 spells_all known n entries kept left text new_text l first journal kept_is order more so =
@@ -216,3 +230,69 @@ pub noted_some : (setup : JournalSetup) (journal entries : List Entry) → lengt
 noted_some setup [] [] some = absurd (some refl)
 noted_some setup [] (e ∷ entries) some = refl
 noted_some setup (x ∷ journal) entries some = refl
+
+-- ---- what is known with one entry more
+
+-- one that is no Route
+pub known_more : (known : List Known) (named : List Content) (es : List Entry) (e : Entry) → routes_by e ≡ 0
+    → AreKnown known named es → AreKnown known named (es ++ e ∷ [])
+unfolding AreKnown
+known_more known named [] e none h = (other known (item_of named e) e none, tt)
+  where
+    other : (known : List Known) (item : List Content) (e : Entry) → routes_by e ≡ 0
+        → IsKnown (known_of known e) item e
+    other known item (Gather input moment pieces refused passed filtered metrics group reports) none = tt
+    other known item (Ended input) none = tt
+    other known item (Take number) none = tt
+    other known item (Route number whole verdict aggs outs reports) none = absurd (omega (arith, none))
+    other known item (Tick moment made) none = tt
+    other known item (Stop moment made) none = tt
+    other known item (Begin output from to) none = tt
+    other known item (Done output ok reports) none = tt
+known_more known named (x ∷ es) e none h = (
+  h.0,
+  known_more (drop (routes_by x) known) (named ++ named_by x) es e none h.1,
+)
+
+-- what is known of an entry is the same where more is known of those behind it
+known_first : (known more : List Known) (e : Entry) → routes_by e ≤ length known
+    → known_of (known ++ more) e ≡ known_of known e
+known_first known more (Gather input moment pieces refused passed filtered metrics group reports) l = refl
+known_first known more (Ended input) l = refl
+known_first known more (Take number) l = refl
+known_first [] more (Route number whole verdict aggs outs reports) l = absurd (omega (arith, l))
+known_first (k ∷ known) more (Route number whole verdict aggs outs reports) l = refl
+known_first known more (Tick moment made) l = refl
+known_first known more (Stop moment made) l = refl
+known_first known more (Begin output from to) l = refl
+known_first known more (Done output ok reports) l = refl
+
+-- a Route, of which this is known
+pub known_route : (all : List Known) (named : List Content) (es : List Entry) (known : Known) (routed : ℕ)
+    (whole : Option Content) (verdict : Verdict) (aggs outs : List (Option Content)) (reports : List Report)
+    → length all ≡ routes es
+    → IsKnownRoute known (option_to_list (slice_get (named ++ items es) routed)) whole aggs outs → AreKnown all named es
+    → AreKnown (all ++ known ∷ []) named (es ++ Route routed whole verdict aggs outs reports ∷ [])
+unfolding AreKnown items routes
+known_route [] named [] known routed whole verdict aggs outs reports count is h = (
+  subst (λ (xs : List Content). IsKnownRoute known (option_to_list (slice_get xs routed)) whole aggs outs)
+      (append-nil named) is,
+  tt,
+)
+known_route (k ∷ all) named [] known routed whole verdict aggs outs reports count is h =
+    absurd (omega (arith, count))
+known_route all named (x ∷ es) known routed whole verdict aggs outs reports count is h =
+    let few : routes_by x ≤ length all = omega (arith, count) in
+    let behind : length (drop (routes_by x) all) ≡ routes es = omega (arith, length-drop (routes_by x) all, count) in (
+      subst (λ (k : Known). IsKnown k (item_of named x) x) (sym (known_first all (known ∷ []) x few)) h.0,
+      subst (λ (ks : List Known). AreKnown ks (named ++ named_by x)
+          (es ++ Route routed whole verdict aggs outs reports ∷ []))
+          (sym (drop-append-le (routes_by x) all (known ∷ []) few))
+          (known_route (drop (routes_by x) all) (named ++ named_by x) es known routed whole verdict aggs outs reports
+          behind (subst (λ (xs : List Content). IsKnownRoute known (option_to_list (slice_get xs routed)) whole aggs
+          outs) (sym (append_assoc named (named_by x) (items es))) is) h.1),
+    )
+
+-- where as many are known as there are Routes, none is left behind them
+pub known_behind : (known : List Known) (es : List Entry) → length known ≡ routes es → drop (routes es) known ≡ []
+known_behind known es count = drop_all (routes es) known (omega (arith, count))

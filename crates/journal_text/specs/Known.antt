@@ -1,5 +1,5 @@
--- What is known of all Routes of a journal before they are written, and how they are written with it.
-use Rattle.std.specs.Prelude.{◌≡◌, Bool, true, false, ℕ, List, [], ◌∷◌, ◌++◌, codes, decimal, IfSome, if◌then◌else◌}
+-- What is known of Routes before they are written, and how they are written with it.
+use Rattle.std.specs.Prelude.{◌≡◌, Bool, true, false, ℕ, List, [], ◌∷◌, ◌++◌, codes, decimal, drop, IfSome, if◌then◌else◌}
 use Rattle.std.specs.List.{flat_map, AllByRecursion}
 use Rattle.std.specs.declared.option.Option.{Option}
 use Rattle.std.specs.declared.option.Option.TheVariants.{Some, None}
@@ -7,7 +7,7 @@ use Rattle.metric.specs.declared.metric.Content.{Content}
 use Rattle.account.specs.declared.entry.Verdict.{Verdict}
 use Rattle.account.specs.declared.entry.Entry.{Entry}
 use Rattle.account.specs.declared.entry.Entry.TheVariants.{Route}
-use Rattle.account.specs.Items.{named_by}
+use Rattle.account.specs.Items.{named_by, routes_by}
 use Rattle.account.specs.Says.{reports_of}
 use Rattle.journal_text.specs.JournalText.{beside_text, whole_text, verdict_text, metric_lines, report_lines}
 use Rattle.journal_text.specs.JournalText.{head_text, item_of}
@@ -38,10 +38,21 @@ abbrev pub IsKnown : Known → List Content → Entry → Type 0
 IsKnown known item (Route routed whole verdict aggs outs reports) = IsKnownRoute known item whole aggs outs
 IsKnown known item _ = Unit {0}
 
+-- the first of what is known of Routes; nothing where there is none
+abbrev pub first_known : List Known → Known
+first_known [] = nothing_known
+first_known (known ∷ all) = known
+
+-- what is known of an entry, where these are what is known of the next Routes: of a Route the first of them
+abbrev pub known_of : List Known → Entry → Known
+known_of all (Route routed whole verdict aggs outs reports) = first_known all
+known_of all e = nothing_known
+
 -- it is so for entries, each with the items that those before it named; these are named at first
-unfoldable pub AreKnown : Known → List Content → List Entry → Type 0
-AreKnown known named [] = Unit {0}
-AreKnown known named (e ∷ es) = IsKnown known (item_of named e) e × AreKnown known (named ++ named_by e) es
+unfoldable pub AreKnown : List Known → List Content → List Entry → Type 0
+AreKnown all named [] = Unit {0}
+AreKnown all named (e ∷ es) =
+    IsKnown (known_of all e) (item_of named e) e × AreKnown (drop (routes_by e) all) (named ++ named_by e) es
 
 -- ---- how an entry is written then
 

@@ -32,7 +32,7 @@ pub record IsSpelled (journal entries : List Entry) (left : List Content)
 
 -- so it is for each journal whose items without a Route are those that were kept, where the entries' Routes
 -- come in order, and what is known of them is so
-abbrev pub SpellsOn : Known → List Entry → List Content → List Content → List ℕ → List ℕ → Type 0
+abbrev pub SpellsOn : List Known → List Entry → List Content → List Content → List ℕ → List ℕ → Type 0
 SpellsOn known entries kept left text new_text =
     (journal : List Entry) → kept ≡ unrouted_items journal → RoutesInOrder 0 0 journal
     → RouteOnInOrder journal entries → AreKnown known (items journal) entries

@@ -2,11 +2,11 @@
 ghost use Rattle.std.specs.Prelude.{◌≡◌};
 ghost use Rattle.journal_text.specs.Known.{nothing_known};
 
-/// What is known of all Routes of a journal before they are written, so that it isn't looked for in each: where it is so
-/// the text is the same as without it (`known_stays`).
+/// What is known of a Route before it is written, so that it isn't looked for: where it is so the text is the same as
+/// without it (`known_stays`).
 #[derive(Clone, Copy, Debug, PartialEq, Eq)]
 pub struct Known {
-    /// Each whole equals its item.
+    /// Its whole, if it has one, equals its item.
     pub whole: bool,
     /// Each view at an aggregator equals the whole.
     pub aggs: bool,

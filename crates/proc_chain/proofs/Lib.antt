@@ -1,4 +1,5 @@
 pub mod BegunLemmas
+pub mod GoingLemmas
 pub mod IndexLemmas
 pub mod LawLemmas
 pub mod PushLemmas

@@ -3,8 +3,11 @@ use Rattle.std.proofs.Common.{◌≡◌, ◌++◌, ◌<◌, ◌+◌, ℕ, List, 
 use Rattle.std.proofs.Common.{refl, sym, ap, ◌∙◌, subst, arith, drop, length, get_or, set}
 use Rattle.std.proofs.lemmas.List.{drop_all, take-set}
 use Rattle.std.specs.Prelude.{option_and_then, IfOk, IsErr}
+use Rattle.std.specs.Option.{option_map}
 use Rattle.fixed_num.specs.declared.memory.OutOfMemory.{OutOfMemory}
 use Rattle.metric.specs.declared.metric.Content.{Content}
+use Rattle.metric_filter.specs.Kept.{metric_of}
+use Rattle.metric_filter.specs.declared.kept.Kept.{Kept}
 use Rattle.proc_chain.specs.Chain.{steps_of, AllStand, IsBehind, StageStands, StageState, StageWillStand}
 use Rattle.proc_chain.specs.Seen.{Pushes, PushesFrom, StageSees}
 use Rattle.proc_chain.specs.Steps.{chain_result, passed, step_result, whole}
@@ -17,11 +20,11 @@ use Rattle.proc_chain.proofs.StepLemmas.{passed-none, passed-some, whole-push}
 -- ---- steps in order
 
 -- what stages make of a metric, for every list for which they stand
-abbrev PushesOn : List StageState → Content → Result (Option Content) OutOfMemory → List StageState → Type 0
+abbrev PushesOn : List StageState → Content → Result (Option Kept) OutOfMemory → List StageState → Type 0
 PushesOn old m result new = (list : List Content) → AllStand old list → Pushes old list m result new
 
 -- without stages a metric passes as it is
-ends : (m : Content) → PushesOn [] m (Ok (Some m)) []
+ends : (m : Kept) → PushesOn [] (metric_of m) (Ok (Some m)) []
 unfolding chain_result
 ends m list all = (refl, tt)
 
@@ -48,7 +51,7 @@ module _ (s t : StageState) (same : t.step ≡ s.step) (rest : List StageState) 
   )
 
   -- a step that passes one on, which the others answer
-  goes_on : (next : List StageState) (left : Content) (answer : Option Content) (list : List Content)
+  goes_on : (next : List StageState) (left : Content) (answer : Option Kept) (list : List Content)
       → step_result s.step list m ≡ Some left → StageStands t (list ++ m ∷ [])
       → Pushes {E = OutOfMemory} rest (passed s.step list) left (Ok answer) next
       → Pushes {E = OutOfMemory} (s ∷ rest) list m (Ok answer) (t ∷ next)
@@ -60,41 +63,43 @@ module _ (s t : StageState) (same : t.step ≡ s.step) (rest : List StageState) 
         (stands, subst (AllStand next) (sym others) h.1),
       )
 
-  passes : (next : List StageState) (left : Content) (result : Result (Option Content) OutOfMemory) (seen : Seen)
+  passes : (next : List StageState) (left : Kept) (result : Result (Option Kept) OutOfMemory) (seen : Seen)
       → ((list : List Content) → StageStands s list → StageStands t list)
       → ((list : List Content) → StageStands s list → StageSees s list m seen t)
-      → seen ≡ Passes left → PushesOn rest left result next → PushesOn (s ∷ rest) m result (t ∷ next)
+      → seen ≡ Passes left → PushesOn rest (metric_of left) result next → PushesOn (s ∷ rest) m result (t ∷ next)
   passes next left (Ok answer) seen still sees is h list all =
       let now = subst (λ (x : Seen). StageSees s list m x t) is (sees list all.0) in
-      goes_on next left answer list now.0 now.1 (h (passed s.step list) all.1)
-  passes next left (Err error) seen still sees is h list all = fails next left error error still h list all
+      goes_on next (metric_of left) answer list now.0 now.1 (h (passed s.step list) all.1)
+  passes next left (Err error) seen still sees is h list all =
+      fails next (metric_of left) error error still h list all
 
 -- a step that passes one on, and keeps what is to be kept once the others have answered
-keeps : (s t u : StageState) (rest next : List StageState) (m left fresh : Content)
-    (answer : Option Content) (seen : Seen)
+keeps : (s t u : StageState) (rest next : List StageState) (m : Content) (left : Kept) (fresh : Content)
+    (answer : Option Kept) (seen : Seen)
     → u.step ≡ s.step → ((list : List Content) → StageStands s list → StageSees s list m seen t)
     → seen ≡ Fresh left fresh → ((list : List Content) → StageWillStand t list fresh → StageStands u list)
-    → PushesOn rest left (Ok answer) next → PushesOn (s ∷ rest) m (Ok answer) (u ∷ next)
+    → PushesOn rest (metric_of left) (Ok answer) next → PushesOn (s ∷ rest) m (Ok answer) (u ∷ next)
 keeps s t u rest next m left fresh answer seen same sees is kept h list all =
     let now = subst (λ (x : Seen). StageSees s list m x t) is (sees list all.0) in
-    goes_on s u same rest m next left answer list now.0 (kept (list ++ m ∷ []) now.1) (h (passed s.step list) all.1)
+    goes_on s u same rest m next (metric_of left) answer list now.0 (kept (list ++ m ∷ []) now.1)
+    (h (passed s.step list) all.1)
 
 -- ---- stages from an index on
 
 -- lists whose elements at an index are these, with these behind them
-at_front : (old new front behind : List StageState) (m : Content) (result : Result (Option Content) OutOfMemory)
+at_front : (old new front behind : List StageState) (m : Content) (result : Result (Option Kept) OutOfMemory)
     → old ≡ front → new ≡ behind → PushesOn front m result behind → PushesOn old m result new
 at_front old new front behind m result e f h =
     subst (λ xs. PushesOn xs m result new) (sym e) (subst (λ ys. PushesOn front m result ys) (sym f) h)
 
-pub none_left : (at : ℕ) (stages : List StageState) (m : Content) → length stages ≡ at
-    → PushesFrom {E = OutOfMemory} at stages m (Ok (Some m)) stages
+pub none_left : (at : ℕ) (stages : List StageState) (m : Kept) → length stages ≡ at
+    → PushesFrom {E = OutOfMemory} at stages (metric_of m) (Ok (Some m)) stages
 none_left at stages m long =
     let none : drop at stages ≡ [] = drop_all at stages (omega arith) in
     record {
       front = refl;
       steps = refl;
-      pushes = at_front (drop at stages) (drop at stages) [] [] m (Ok (Some m)) none none (ends m);
+      pushes = at_front (drop at stages) (drop at stages) [] [] (metric_of m) (Ok (Some m)) none none (ends m);
     }
 
 module _ (old : List StageState) (at : ℕ) (s t : StageState) (lt : at < length old) (is : s ≡ get_or old at s)
@@ -103,7 +108,7 @@ module _ (old : List StageState) (at : ℕ) (s t : StageState) (lt : at < length
   looked = set old at t
 
   -- what the stage at the index leaves, where none behind it is asked
-  ended : (result : Result (Option Content) OutOfMemory)
+  ended : (result : Result (Option Kept) OutOfMemory)
       → PushesOn (s ∷ drop (at + 1) old) m result (t ∷ drop (at + 1) old) → PushesFrom at old m result looked
   ended result h = record {
     front = take-set old at t;
@@ -112,7 +117,7 @@ module _ (old : List StageState) (at : ℕ) (s t : StageState) (lt : at < length
         (here old at s lt is) (set_here old at s lt is t) h;
   }
 
-  pub look_failed : (result : Result (Option Content) OutOfMemory) → IsErr result
+  pub look_failed : (result : Result (Option Kept) OutOfMemory) → IsErr result
       → ((list : List Content) → StageStands s list → StageStands t list) → PushesFrom at old m result looked
   look_failed (Ok answer) failed still = absurd cc
   look_failed (Err error) failed still =
@@ -127,13 +132,14 @@ module _ (old : List StageState) (at : ℕ) (s t : StageState) (lt : at < length
   look_removed seen sees removed = ended (Ok None) (stops s t same (drop (at + 1) old) m seen sees removed)
 
   -- where the stages behind it are asked
-  module _ (new : List StageState) (left : Content) where
-    behind : (result : Result (Option Content) OutOfMemory) → PushesFrom (at + 1) looked left result new
-        → PushesOn (drop (at + 1) old) left result (drop (at + 1) new)
+  module _ (new : List StageState) (left : Kept) where
+    behind : (result : Result (Option Kept) OutOfMemory) → PushesFrom (at + 1) looked (metric_of left) result new
+        → PushesOn (drop (at + 1) old) (metric_of left) result (drop (at + 1) new)
     behind result h =
-        subst (λ xs. PushesOn xs left result (drop (at + 1) new)) (set_behind old at s lt is t) h.pushes
+        subst (λ xs. PushesOn xs (metric_of left) result (drop (at + 1) new)) (set_behind old at s lt is t) h.pushes
 
-    whole_behind : (result inner : Result (Option Content) OutOfMemory) → PushesFrom (at + 1) looked left inner new
+    whole_behind : (result inner : Result (Option Kept) OutOfMemory)
+        → PushesFrom (at + 1) looked (metric_of left) inner new
         → PushesOn (s ∷ drop (at + 1) old) m result (t ∷ drop (at + 1) new) → PushesFrom at old m result new
     whole_behind result inner h on = record {
       front = new_front old at s lt is t new h.front;
@@ -142,41 +148,43 @@ module _ (old : List StageState) (at : ℕ) (s t : StageState) (lt : at < length
           (here old at s lt is) (new_here old at s lt is t new h.front) on;
     }
 
-    pub passed_on : (result : Result (Option Content) OutOfMemory) (seen : Seen)
+    pub passed_on : (result : Result (Option Kept) OutOfMemory) (seen : Seen)
         → ((list : List Content) → StageStands s list → StageStands t list)
         → ((list : List Content) → StageStands s list → StageSees s list m seen t)
-        → seen ≡ Passes left → PushesFrom (at + 1) looked left result new → PushesFrom at old m result new
+        → seen ≡ Passes left → PushesFrom (at + 1) looked (metric_of left) result new → PushesFrom at old m result new
     passed_on result seen still sees passes_on h =
         whole_behind result result h (passes s t same (drop (at + 1) old) m (drop (at + 1) new) left result seen
         still sees passes_on (behind result h))
 
-    pub others_failed : (inner result : Result (Option Content) OutOfMemory) (error : OutOfMemory)
+    pub others_failed : (inner result : Result (Option Kept) OutOfMemory) (error : OutOfMemory)
         → ((list : List Content) → StageStands s list → StageStands t list) → inner ≡ Err error → IsErr result
-        → PushesFrom (at + 1) looked left inner new → PushesFrom at old m result new
+        → PushesFrom (at + 1) looked (metric_of left) inner new → PushesFrom at old m result new
     others_failed inner (Ok answer) error still is failed h = absurd cc
     others_failed inner (Err other) error still is failed h =
-        let on : PushesFrom {E = OutOfMemory} (at + 1) looked left (Err error) new =
-        subst (λ (r : Result (Option Content) OutOfMemory). PushesFrom (at + 1) looked left r new) is h in
-        whole_behind (Err other) (Err error) on (fails s t same (drop (at + 1) old) m (drop (at + 1) new) left error
-        other still (behind (Err error) on))
+        let on : PushesFrom {E = OutOfMemory} (at + 1) looked (metric_of left) (Err error) new =
+        subst (λ (r : Result (Option Kept) OutOfMemory). PushesFrom (at + 1) looked (metric_of left) r new) is h in
+        whole_behind (Err other) (Err error) on (fails s t same (drop (at + 1) old) m (drop (at + 1) new)
+        (metric_of left) error other still (behind (Err error) on))
 
     -- the stage is as it was left
-    still_there : (result : Result (Option Content) OutOfMemory) (x : StageState)
-        → PushesFrom (at + 1) looked left result new → x ≡ get_or new at x → x ≡ t
+    still_there : (result : Result (Option Kept) OutOfMemory) (x : StageState)
+        → PushesFrom (at + 1) looked (metric_of left) result new → x ≡ get_or new at x → x ≡ t
     still_there result x h read = read ∙ new_at old at s lt is t new h.front x
 
-    still_within : (result : Result (Option Content) OutOfMemory) → PushesFrom (at + 1) looked left result new
+    still_within : (result : Result (Option Kept) OutOfMemory) → PushesFrom (at + 1) looked (metric_of left) result new
         → at < length new
     still_within result h = new_within old at s lt is t new h.front
 
-    pub kept_at : (inner : Result (Option Content) OutOfMemory) (answer : Option Content) (fresh : Content)
+    pub kept_at : (inner : Result (Option Kept) OutOfMemory) (answer : Option Kept) (fresh : Content)
         (seen : Seen) (x u : StageState) → ((list : List Content) → StageStands s list → StageSees s list m seen t)
-        → seen ≡ Fresh left fresh → inner ≡ Ok answer → PushesFrom (at + 1) looked left inner new → x ≡ get_or new at x
-        → u.step ≡ x.step → ((list : List Content) → StageWillStand x list fresh → StageStands u list)
+        → seen ≡ Fresh left fresh → inner ≡ Ok answer → PushesFrom (at + 1) looked (metric_of left) inner new
+        → x ≡ get_or new at x → u.step ≡ x.step
+        → ((list : List Content) → StageWillStand x list fresh → StageStands u list)
         → PushesFrom {E = OutOfMemory} at old m (Ok answer) (set new at u)
     kept_at inner answer fresh seen x u sees fresh_is is_ok inner_on read step kept =
-        let h : PushesFrom {E = OutOfMemory} (at + 1) looked left (Ok answer) new =
-        subst (λ (r : Result (Option Content) OutOfMemory). PushesFrom (at + 1) looked left r new) is_ok inner_on in
+        let h : PushesFrom {E = OutOfMemory} (at + 1) looked (metric_of left) (Ok answer) new =
+        subst (λ (r : Result (Option Kept) OutOfMemory). PushesFrom (at + 1) looked (metric_of left) r new) is_ok
+        inner_on in
         let there : x ≡ t = still_there inner x inner_on read in
         let within : at < length new = still_within inner inner_on in
         let will : (list : List Content) → StageWillStand t list fresh → StageStands u list =
@@ -195,8 +203,8 @@ module _ (old : List StageState) (at : ℕ) (s t : StageState) (lt : at < length
 -- ---- a chain
 
 pub answered : (steps : List Step) (list : List Content) (m : Content) (old new : List StageState)
-    (result : Result (Option Content) OutOfMemory) → IsBehind steps list old → PushesFrom 0 old m result new
-    → IfOk result (λ answer. answer ≡ whole steps (list ++ m ∷ []))
+    (result : Result (Option Kept) OutOfMemory) → IsBehind steps list old → PushesFrom 0 old m result new
+    → IfOk result (λ answer. option_map metric_of answer ≡ whole steps (list ++ m ∷ []))
 answered steps list m old new (Ok answer) behind h =
     (h.pushes list behind.each).0 ∙ ap (λ (all : List Step). chain_result all list m) behind.same
     ∙ sym (whole-push steps list m)

@@ -5,6 +5,8 @@ use Rattle.std.specs.Prelude.{option_and_then, if◌then◌else◌, IfOk}
 use Rattle.fixed_num.specs.declared.memory.OutOfMemory.{OutOfMemory}
 use Rattle.metric.specs.declared.metric.Content.{Content}
 use Rattle.metric_filter.specs.Filter.{applied, left, selects, with_fields}
+use Rattle.metric_filter.specs.Kept.{metric_of}
+use Rattle.metric_filter.specs.declared.kept.Kept.{Kept}
 use Rattle.metric_filter.specs.declared.rules.FilterRules.{FilterRules}
 use Rattle.proc_dedup.specs.Dedup.{is_removed, Memory, StandsFor}
 use Rattle.proc_chain.specs.Chain.{StageStands, StageState, WorkStands, WorkWillStand}
@@ -31,13 +33,14 @@ abbrev stage_of : Step → Option Memory → StageState
 stage_of step memory = record { step = step; memory = memory }
 
 -- one that isn't selected
-pub unselected : (step : Step) (before memory : Option Memory) (list : List Content) (m : Content)
-    → selects step.filter m ≡ false → StageStands (stage_of step memory) list
-    → StageSees (stage_of step before) list m (Passes m) (stage_of step memory)
+pub unselected : (step : Step) (before memory : Option Memory) (list : List Content) (m : Kept)
+    → selects step.filter (metric_of m) ≡ false → StageStands (stage_of step memory) list
+    → StageSees (stage_of step before) list (metric_of m) (Passes m) (stage_of step memory)
 unselected step before memory list m refused stands =
-    let gone : applied step.filter m ≡ None = when_false (selects step.filter m) _ _ refused in (
-      when_false (selects step.filter m) _ _ refused,
-      subst (λ l. WorkStands step.work l memory) (sym (given-none step list m gone)) stands,
+    let metric = metric_of m in
+    let gone : applied step.filter metric ≡ None = when_false (selects step.filter metric) _ _ refused in (
+      when_false (selects step.filter metric) _ _ refused,
+      subst (λ l. WorkStands step.work l memory) (sym (given-none step list metric gone)) stands,
     )
 
 -- what is made of one that is selected
@@ -107,11 +110,11 @@ pub removed_now : (interval : ℤ) (list : List Content) (m : Content) (memory :
 removed_now interval list m memory gone stands = (when_true (is_removed interval list m) _ _ gone, stands)
 
 -- one that isn't is to be kept
-pub kept_later : (interval : ℤ) (list : List Content) (m n : Content) (memory : Memory)
-    → is_removed interval list m ≡ false → n ≡ m → StandsFor interval list memory
-    → WorkSees (said.Dedup interval) list m (Fresh m n) (Some memory)
+pub kept_later : (interval : ℤ) (list : List Content) (m : Kept) (n : Content) (memory : Memory)
+    → is_removed interval list (metric_of m) ≡ false → n ≡ metric_of m → StandsFor interval list memory
+    → WorkSees (said.Dedup interval) list (metric_of m) (Fresh m n) (Some memory)
 kept_later interval list m n memory fresh same stands = (
-  when_false (is_removed interval list m) _ _ fresh,
+  when_false (is_removed interval list (metric_of m)) _ _ fresh,
   record {
     earlier = list;
     all = ap (λ (k : Content). list ++ k ∷ []) (sym same);

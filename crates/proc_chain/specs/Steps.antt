@@ -1,8 +1,9 @@
 -- What steps make of the metrics that are pushed to them, one after the other.
 use Rattle.std.specs.Prelude.{◌++◌, List, [], ◌∷◌, filter_map, Option, Some, None, option_and_then, if◌then◌else◌}
-use Rattle.std.specs.List.{fold, last_or}
+use Rattle.std.specs.Prelude.{◌&&◌, ◌||◌, Bool, true, false, not}
+use Rattle.std.specs.List.{fold, last_or, list_all}
 use Rattle.metric.specs.declared.metric.Content.{Content}
-use Rattle.metric_filter.specs.Filter.{applied, selects}
+use Rattle.metric_filter.specs.Filter.{applied, keeps_all, selects}
 use Rattle.proc_dedup.specs.Dedup.{left_after}
 use Rattle.proc_edit.specs.Convert.{whole_converted}
 use Rattle.proc_edit.specs.Rename.{renamed}
@@ -43,6 +44,16 @@ step_result step earlier m =
     if selects step.filter m then option_and_then (worked step.work (given step earlier)) (applied step.filter m)
     else Some m
 
+-- does a work remove metrics at most, so that the others stay as they are
+abbrev pub only_removes : StepWork → Bool
+only_removes (Dedup interval) = true
+only_removes work = false
+
+-- does a step leave a metric as it is where it doesn't remove it: its filter doesn't select it, or leaves each part of
+-- it, and the work removes at most
+unfoldable pub leaves_as_is : Step → Content → Bool
+leaves_as_is step m = not (selects step.filter m) || (keeps_all step.filter m && only_removes step.work)
+
 -- the results of a step, one for each metric that reached it
 abbrev pub step_results : Step → List Content → List (Option Content)
 step_results step list = each_behind (step_result step) [] list
@@ -58,6 +69,10 @@ unfoldable pub chain_result : List Step → List Content → Content → Option 
 chain_result [] earlier m = Some m
 chain_result (step ∷ steps) earlier m =
     option_and_then (chain_result steps (passed step earlier)) (step_result step earlier m)
+
+-- does each of steps leave a metric as it is where none of them removes it
+abbrev pub leave_as_is : List Step → Content → Bool
+leave_as_is steps m = list_all (λ step. leaves_as_is step m) steps
 
 -- the results of steps, one for each metric that was pushed
 unfoldable pub chain_results : List Step → List Content → List (Option Content)

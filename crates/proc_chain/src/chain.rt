@@ -1,15 +1,18 @@
 //! Steps in order.
-ghost use Rattle.std.specs.Prelude.{◌≡◌, ◌++◌, ◌∷◌, ◌≤◌, [], List, length, IfOk, OnErr, OnOk};
+ghost use Rattle.std.specs.Prelude.{◌≡◌, ◌++◌, ◌∷◌, ◌≤◌, [], List, drop, length, IfOk, IfSome, OnErr, OnOk};
+ghost use Rattle.std.specs.Option.{option_map};
 ghost use Rattle.metric.specs.declared.metric.Content.{Content};
+ghost use Rattle.metric_filter.specs.Kept.{is_same, metric_of, IsKeptOf};
 ghost use Rattle.proc_chain.specs.Chain.{steps_of, IsBehind};
-ghost use Rattle.proc_chain.specs.Seen.{PushesFrom};
-ghost use Rattle.proc_chain.specs.Steps.{whole};
+ghost use Rattle.proc_chain.specs.Seen.{GoesOn, PushesFrom};
+ghost use Rattle.proc_chain.specs.Steps.{leave_as_is, whole};
 ghost use Rattle.proc_chain.specs.declared.step.Step.{Step};
 
 use crate::stage::{Seen, Stage};
 use crate::step::Step;
 use fixed_num::OutOfMemory;
 use metric::Metric;
+use metric_filter::Kept;
 use std::alloc::Global;
 use std::marker::Model;
 
@@ -42,29 +45,31 @@ impl<'a> Chain<'a> {
 
     /// What the steps make of the next metric, one after the other: None exactly where one of them removes it. A step
     /// works on the metrics that its filter selects, and on what that leaves of them; one of which no field is left is
-    /// removed. After an error all is as if the metric hadn't come.
-    pub fn push(&mut self, m: Metric) -> Result<Option<Metric>, OutOfMemory>
+    /// removed. What passes is `Same` exactly where no step that selects it edits it, be it without effect, or leaves a
+    /// part of it out: then it is the metric that was pushed. After an error all is as if the metric hadn't come.
+    pub fn push(&mut self, m: Metric) -> Result<Option<Kept>, OutOfMemory>
         ensures answer { (steps : List Step) (list : List Content) → IsBehind steps list self.old
-            → IfOk result (λ answer. answer ≡ whole steps (list ++ m ∷ [])) }
+            → IfOk result (λ answer. option_map metric_of answer ≡ whole steps (list ++ m ∷ [])) }
+        ensures same { IfOk result (λ answer.
+            IfSome answer (λ kept. is_same kept ≡ leave_as_is (steps_of self.old) m)) }
+        ensures itself { IfOk result (λ answer. IfSome answer (IsKeptOf m)) }
         ensures stands { (steps : List Step) (list : List Content) → IsBehind steps list self.old
             → OnOk result (IsBehind steps (list ++ m ∷ []) self.new) }
         ensures err { (steps : List Step) (list : List Content) → IsBehind steps list self.old
             → OnErr result (IsBehind steps list self.new) }
         ensures steps { steps_of self.new ≡ steps_of self.old }
     {
-        push_from(&mut self.stages, 0, m)
+        push_from(&mut self.stages, 0, Kept::Same(m))
     }
 }
 
 /// What the stages from an index on make of the next metric, one after the other. What is to be kept is kept once all
 /// of them have looked.
-fn push_from(
-    stages: &mut Vec<Stage<'_>>,
-    at: usize,
-    m: Metric,
-) -> Result<Option<Metric>, OutOfMemory>
+fn push_from(stages: &mut Vec<Stage<'_>>, at: usize, m: Kept) -> Result<Option<Kept>, OutOfMemory>
     requires { at ≤ length stages.old.items }
-    ensures { PushesFrom at stages.old.items m result stages.new.items }
+    ensures pushes { PushesFrom at stages.old.items (metric_of m) result stages.new.items }
+    ensures goes_on { IfOk result (λ answer. IfSome answer
+        (GoesOn (leave_as_is (steps_of (drop at stages.old.items)) (metric_of m)) m)) }
 {
     if at == stages.len() {
         return Ok(Some(m));

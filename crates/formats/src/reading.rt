@@ -249,7 +249,7 @@ impl Group {
         self.shows_counts_fit();
         let metric = metric.with_tags(alloc, rule.globals)?;
         match rule.filter.apply_to(metric)? {
-            Some(metric) => self.metrics.push(metric)?,
+            Some(kept) => self.metrics.push(kept.into_metric())?,
             None => self.filtered = self.filtered.saturating_add(1),
         }
         Ok(())

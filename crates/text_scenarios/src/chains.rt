@@ -108,7 +108,7 @@ pub fn append_chained(
     let mut chain = Chain::new(alloc, steps.as_slice())?;
     for metric in &metrics_of(alloc, lines)? {
         match chain.push(metric.copy()?)? {
-            Some(left) => write_line(alloc, &left, out)?,
+            Some(kept) => write_line(alloc, kept.metric(), out)?,
             None => put(out, "removed\n")?,
         }
     }

@@ -123,8 +123,8 @@ pub fn append_filtered(
     let config = config_of(alloc, row)?;
     for input in config.inputs.as_slice() {
         for metric in &metrics {
-            if let Some(left) = input.filter.apply(metric)? {
-                write_line(alloc, &left, out)?;
+            if let Some(kept) = input.filter.apply(metric)? {
+                write_line(alloc, kept.metric(), out)?;
             }
         }
     }
@@ -137,8 +137,8 @@ pub fn append_left(alloc: Global, row: &Row, lines: &str, out: &mut Vec<u8>) -> 
     let config = config_of(alloc, row)?;
     for input in config.inputs.as_slice() {
         for metric in &metrics {
-            if let Some(left) = input.filter.left_of(metric.copy()?)? {
-                write_line(alloc, &left, out)?;
+            if let Some(kept) = input.filter.left_of(metric.copy()?)? {
+                write_line(alloc, kept.metric(), out)?;
             }
         }
     }

@@ -29,7 +29,8 @@ use Rattle.agent_base.specs.Counts.{RoseBy}
 use Rattle.account.specs.Dones.{dones, LastFailed}
 use Rattle.pipeline_core.specs.Stopped.{behind_stop}
 use Rattle.account.specs.EntryMoments.{counted_moments}
-use Rattle.account.specs.Items.{raw_items, items, taken}
+use Rattle.account.specs.Items.{raw_items, items, routes, taken}
+use Rattle.journal_text.specs.Known.{AreKnown}
 use Rattle.agent_workers.specs.Input.{IsFull}
 use Rattle.formats.specs.Reader.{InRule, FitsGather}
 use Rattle.agent_workers.specs.Inputs.{InPart, in_at, HoldsTooMany, AreInputs, AreOut, HaveLimits, IsOut, OneIsFull}
@@ -44,7 +45,7 @@ use Rattle.agent_base.specs.Counts.{Rose}
 use Rattle.std.specs.Prelude.{◌||◌}
 use Rattle.agent_workers.specs.Finished.{IsCounted, Finished, begun, IsSetUp}
 use Rattle.agent_workers.specs.Noted.{JournalPart, Notes, part_change}
-use Rattle.agent_workers.specs.Job.{Job, journal_setup_of, limit_of, setup_of, output_sizes, IsKnownOf}
+use Rattle.agent_workers.specs.Job.{Job, journal_setup_of, limit_of, setup_of, output_sizes}
 use Rattle.agent_workers.specs.RunState.{RunState, Beginning, setup_at}
 use Rattle.agent_workers.specs.Progress.{HasText, Heard, Said, Progress}
 use Rattle.agent_workers.specs.Running.{IsReady, AreSettled, AreLeft, SomeIsBuffered, buffered_at}
@@ -62,8 +63,8 @@ use Rattle.pipeline_core.proofs.RawLemmas.{raw_of-none}
 use Rattle.pipeline_core.proofs.WorkedLemmas.{worked_first}
 use Rattle.agent_workers.proofs.HeardLemmas.{heard_first, gathered_at_end, clocked_at_end, full_at_end}
 use Rattle.agent_workers.proofs.InLemmas.{fit_first}
-use Rattle.agent_workers.proofs.NotedLemmas.{notes_none}
-use Rattle.agent_workers.proofs.ProgressLemmas.{buffered_is}
+use Rattle.agent_workers.proofs.NotedLemmas.{no_routes, notes_none}
+use Rattle.agent_workers.proofs.ProgressLemmas.{none_known, buffered_is}
 use Rattle.agent_workers.proofs.RoseLemmas.{rose_none}
 use Rattle.agent_workers.proofs.SentLemmas.{sent_first}
 
@@ -95,7 +96,7 @@ went_first : (job : Job) (start : ℤ) (now : RunState) → Stands now.core [] �
     now.journal → now.counted_at ≡ [] →
     length now.ins ≡ length job.inputs → ((k : ℕ) → k < length now.ins → IsFresh (in_at now.ins k))
     → AreUnfailed now.outs → length now.outs ≡ length job.outputs → job.work ≡ work_by now.proc
-    → AllStand now.proc.chain [] → IsKnownOf job.work now.journal.known → now.still ≡ 0
+    → AllStand now.proc.chain [] → now.journal.known ≡ [] → now.still ≡ 0
     → Progress (begun job start now) now
 went_first job start now stands setup stored notes none in_count fresh unfailed count work pushed known yet = record {
   journal = [];
@@ -107,7 +108,8 @@ went_first job start now stands setup stored notes none in_count fresh unfailed 
     written = [];
     split = sym stored;
     notes = notes;
-    known = known;
+    known = subst (AreKnown now.journal.known (items [])) (sym stored) (none_known now.journal.known (items []));
+    each_known = ap length known ∙ sym (ap routes stored ∙ no_routes);
   };
   in_count = in_count;
   heard = λ k l. heard_first (in_at now.ins k) k (fresh k l);
@@ -139,7 +141,7 @@ pub record AreNew (job : Job) (start : ℤ) (now : RunState) : Type 0 where
   pub filters : length now.proc.outs ≡ length job.outputs
   pub work : job.work ≡ work_by now.proc
   pub pushed : AllStand now.proc.chain []
-  pub known : IsKnownOf job.work now.journal.known
+  pub known : now.journal.known ≡ []
   pub about : now.journal.setup ≡ journal_setup_of (setup_of job start)
   pub kept : now.journal.kept ≡ []
   pub entries : now.journal.entries ≡ 0

@@ -162,7 +162,7 @@ went_accepted start core next now ins part g b at own few is more settled w =
     (omega (arith, few, w.text.stands.gathered)) before in
     record {
       journal = w.journal ++ e ∷ [];
-      text = text-push start core next now.journal w.journal e w.text (subst (Continues core next) shape.2 more)
+      text = text-push start core next now.journal w.journal e refl w.text (subst (Continues core next) shape.2 more)
           (ap (λ (s : CoreState). s.stored) is ∙ ap (λ (x : Entry). core.stored ++ x ∷ []) shape.2)
           (ap (λ (s : CoreState). s.setup) is);
       in_count = length-set ins i (record part { held = None }) ∙ w.in_count;
@@ -216,7 +216,7 @@ went_ended start core next now ins part b at some is more none w =
     subst (λ (x : InPart). Heard (in_at start.ins i) x i w.journal) at (w.heard i b) in
     record {
       journal = w.journal ++ e ∷ [];
-      text = text-push start core next now.journal w.journal e w.text more (ap (λ (s : CoreState). s.stored) is)
+      text = text-push start core next now.journal w.journal e refl w.text more (ap (λ (s : CoreState). s.stored) is)
           (ap (λ (s : CoreState). s.setup) is);
       in_count = length-set ins i (record part { state = states.Ended; held = None }) ∙ w.in_count;
       heard = all_heard_set start.ins ins w.journal (w.journal ++ e ∷ []) i

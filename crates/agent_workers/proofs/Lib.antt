@@ -5,7 +5,6 @@ pub mod GatherSteps
 pub mod HeardLemmas
 pub mod HeldLemmas
 pub mod InLemmas
-pub mod KnownLemmas
 pub mod MomentLemmas
 pub mod NotedLemmas
 pub mod OpenedLemmas
@@ -23,3 +22,4 @@ pub mod TakenSteps
 pub mod TickLemmas
 pub mod SetupLemmas
 pub mod QueueLemmas
+pub mod ViewLemmas

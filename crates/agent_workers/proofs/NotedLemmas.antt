@@ -1,20 +1,21 @@
 -- What was put of a journal's text, part by part.
 use Rattle.std.proofs.Common.{◌≡◌, ◌≤◌, ◌<◌, ◌+◌, ℕ, zero, suc, Bool, true, false, List, [], ◌∷◌, ◌++◌, length, take}
-use Rattle.std.proofs.Common.{get_or, refl, sym, ap, ◌∙◌, arith, subst, append_assoc, append-nil, length-append}
-use Rattle.std.proofs.lemmas.List.{take_more, take_all, flat_map_more}
+use Rattle.std.proofs.Common.{drop, get_or, refl, sym, ap, ◌∙◌, arith, subst, append_assoc, append-nil, length-append}
+use Rattle.std.proofs.lemmas.List.{drop-drop, take_more, take_all, flat_map_more}
 use Rattle.std.specs.Prelude.{◌≢◌, MatchOption}
 use Rattle.std.specs.Io.KnownBytes.{Appends}
 use Rattle.std.specs.Option.{option_to_list}
 use Rattle.std.specs.declared.option.Option.{Option}
 use Rattle.std.specs.declared.option.Option.TheVariants.{Some, None}
 use Rattle.account.specs.declared.entry.Entry.{Entry}
-use Rattle.account.specs.Items.{items, routes, named_by}
+use Rattle.account.specs.Items.{items, routes, routes_by, named_by}
+use Rattle.account.proofs.RouteLemmas.{routes-push}
 use Rattle.account.specs.Says.{reports_of}
 use Rattle.metric.specs.declared.metric.Content.{Content}
 use Rattle.agent_workers.proofs.RoseLemmas.{rose_from}
 use Rattle.journal_text.specs.declared.setup.JournalSetup.{JournalSetup}
 use Rattle.journal_text.specs.JournalText.{HasItem, metric_line, metric_lines, report_lines}
-use Rattle.journal_text.specs.Known.{head_as, entry_as}
+use Rattle.journal_text.specs.Known.{known_of, head_as, entry_as}
 use Rattle.journal_text.specs.declared.known.Known.{Known}
 use Rattle.journal_text.specs.JournalText.{entries_text, end_text, journal_text}
 use Rattle.agent_workers.specs.Run.{change, IsPutSo}
@@ -204,25 +205,30 @@ entry_goes known item named e old mid new t0 t1 t2 t3 t4 names head metrics repo
 
 -- ---- entries that are spelled behind a text that waits
 
+-- the Routes of one entry
+routes_one : (e : Entry) → routes (e ∷ []) ≡ routes_by e
+unfolding routes
+routes_one e = omega arith
+
 -- an entry, whose item is at hand
-pub spells_one : (e : Entry) (item mid left : List Content) (old after : JournalPart) (count : ℕ) (text rest : List ℕ)
-    → HasItem item e → old.kept ≡ item ++ mid → GoesOut (record old { kept = mid }) after text
-    (entry_as old.known item e) rest
+pub spells_one : (e : Entry) (item mid left : List Content) (known : List Known) (old after : JournalPart) (count : ℕ)
+    (text rest : List ℕ) → HasItem item e → old.kept ≡ item ++ mid → known ≡ drop (routes_by e) old.known
+    → GoesOut (record old { kept = mid; known = known }) after text (entry_as (known_of old.known e) item e) rest
     → left ≡ after.kept ++ named_by e → count ≡ after.entries + 1 →
     SpellsOut (e ∷ []) old (record after { kept = left; entries = count }) text rest
-spells_one e item mid left old after count text rest has first goes named counted = record {
+spells_one e item mid left known old after count text rest has first known_is goes named counted = record {
   front = goes.front;
   spelled = spells_entry old.known e item old.kept left text (goes.front ++ rest) has
       (rest_named item old.kept mid left (named_by e) first (named
       ∙ ap (λ (xs : List Content). xs ++ named_by e) goes.kept_same)) goes.all;
   put = goes.put;
   about = goes.about;
-  known_same = goes.known_same;
+  known_left = goes.known_same ∙ known_is ∙ ap (λ (n : ℕ). drop n old.known) (sym (routes_one e));
   counted = counted ∙ ap (λ (n : ℕ). n + 1) goes.counted_same;
 }
 
 -- entries behind a longer text
-spells_behind : (known : Known) (entries : List Entry) (kept left : List Content) (front text new_text : List ℕ)
+spells_behind : (known : List Known) (entries : List Entry) (kept left : List Content) (front text new_text : List ℕ)
     → SpellsOn known entries kept left text new_text
     → SpellsOn known entries kept left (front ++ text) (front ++ new_text)
 spells_behind known entries kept left front text new_text spells journal kept_is order more so =
@@ -239,8 +245,12 @@ pub record FirstOut (n : ℕ) (entries : List Entry) (old now : JournalPart) (wa
   pub spelled : SpellsFirst old.known n entries old.kept now.kept waiting (front ++ rest)
   pub put : IsPartPut old.failed now.failed (change old.held now.held old.faults now.faults) front
   pub about : now.setup ≡ old.setup
-  pub known_same : now.known ≡ old.known
+  pub known_left : now.known ≡ drop (routes (take n entries)) old.known
   pub counted : now.entries ≡ old.entries + length (take n entries)
+
+pub no_routes : routes [] ≡ 0
+unfolding routes
+no_routes = refl
 
 pub first_none : (entries : List Entry) (part : JournalPart) (text : List ℕ) → FirstOut 0 entries part part text text
 first_none entries part text = record {
@@ -248,7 +258,7 @@ first_none entries part text = record {
   spelled = spells_no_more part.known entries part.kept text;
   put = nothing_put part.failed part.held part.faults;
   about = refl;
-  known_same = refl;
+  known_left = ap (λ (n : ℕ). drop n part.known) (sym no_routes);
   counted = let none : length (take 0 entries) ≡ 0 = refl in omega (arith, none);
 }
 
@@ -258,6 +268,9 @@ pub first_more : (n : ℕ) (entries : List Entry) (e : Entry) (old mid new : Jou
     FirstOut (n + 1) entries old new waiting rest
 first_more n entries e old mid new waiting text rest lt is h k =
     let one : new.entries ≡ mid.entries + 1 = k.counted in
+    let known : List Known = drop (routes (take n entries)) old.known in
+    let more : take n entries ++ e ∷ [] ≡ take (n + 1) entries =
+    ap (λ (x : Entry). take n entries ++ x ∷ []) is ∙ sym (take_more entries n e lt) in
     let longer : length (take (n + 1) entries) ≡ length (take n entries) + 1 =
     ap length (take_more entries n e lt) ∙ length-append (take n entries) (get_or entries n e ∷ []) in
     record {
@@ -265,15 +278,18 @@ first_more n entries e old mid new waiting text rest lt is h k =
       spelled =
           spells_more old.known n entries e old.kept mid.kept new.kept waiting (h.front ++ text)
           ((h.front ++ k.front) ++ rest) lt is h.spelled
-          (subst (λ (t : List ℕ). SpellsOn old.known (e ∷ []) mid.kept new.kept (h.front ++ text) t)
-          (sym (append_assoc h.front k.front rest)) (spells_behind old.known (e ∷ []) mid.kept new.kept h.front text
+          (subst (λ (t : List ℕ). SpellsOn known (e ∷ []) mid.kept new.kept (h.front ++ text) t)
+          (sym (append_assoc h.front k.front rest)) (spells_behind known (e ∷ []) mid.kept new.kept h.front text
           (k.front ++ rest)
-          (subst (λ (known : Known). SpellsOn known (e ∷ []) mid.kept new.kept text (k.front ++ rest)) h.known_same
+          (subst (λ (known : List Known). SpellsOn known (e ∷ []) mid.kept new.kept text (k.front ++ rest)) h.known_left
           k.spelled)));
       put = parts_put old.failed mid.failed new.failed h.front k.front old.held mid.held new.held old.faults mid.faults
           new.faults h.put k.put;
       about = k.about ∙ h.about;
-      known_same = k.known_same ∙ h.known_same;
+      known_left = k.known_left ∙ ap (λ (ks : List Known). drop (routes (e ∷ [])) ks) h.known_left
+          ∙ drop-drop (routes (e ∷ [])) (routes (take n entries)) old.known ∙ ap (λ (m : ℕ). drop m old.known)
+          (ap (λ (m : ℕ). routes (take n entries) + m) (routes_one e) ∙ sym (routes-push (take n entries) e)
+          ∙ ap routes more);
       counted = omega (arith, one, h.counted, longer);
     }
 
@@ -284,7 +300,7 @@ first_all n entries old new waiting rest most h = record {
   spelled = spells_all old.known n entries old.kept new.kept waiting (h.front ++ rest) most h.spelled;
   put = h.put;
   about = h.about;
-  known_same = h.known_same;
+  known_left = h.known_left ∙ ap (λ (es : List Entry). drop (routes es) old.known) (take_all n entries most);
   counted = h.counted ∙ ap (λ (es : List Entry). old.entries + length es) (take_all n entries most);
 }
 
@@ -396,7 +412,7 @@ notes_more entries old mid new rest left some s k none = record {
         later = all.1;
         put = noted_by entries old setup held faults journal h new.failed new.held new.faults some all.0;
       };
-  known_same = k.known_same ∙ s.known_same;
+  known_left = k.known_same ∙ s.known_left;
 }
 
 -- the last entries were spelled, and all that waited was put with the end

@@ -23,9 +23,8 @@ use Rattle.agent_workers.specs.Inputs.{IsFresh}
 use Rattle.agent_workers.specs.Inputs.{IsReadable}
 use Rattle.proc_chain.specs.Chain.{steps_of, IsBehind}
 use Rattle.proc_chain.specs.declared.step.Step.{Step}
-use Rattle.agent_workers.specs.Job.{Job, job_of, job_input, job_output, journal_setup_of, known_by, rule_by, setup_of}
-use Rattle.agent_workers.specs.Job.{work_of, IsKnownOf}
-use Rattle.agent_workers.proofs.KnownLemmas.{known_is}
+use Rattle.agent_workers.specs.Job.{Job, job_of, job_input, job_output, journal_setup_of, rule_by, setup_of}
+use Rattle.agent_workers.specs.Job.{work_of}
 use Rattle.agent_workers.specs.Noted.{part_change}
 use Rattle.agent_workers.specs.Opened.{Carries, Times, fresh_in, fresh_ins, fresh_out, fresh_outs, empty_hands}
 use Rattle.agent_workers.specs.Opened.{config_ins, config_outs, in_carried, out_carried, change_by, IsMadeOf, IsNewCore}
@@ -150,7 +149,7 @@ pub record AreMade (config : Config) (start : ℤ) (opened : Carries) (times : T
   pub skip : now.proc.skip ≡ config.agent.skip_second
   pub filters : now.proc.outs ≡ config.outputs
   pub chain : IsBehind config.steps [] now.proc.chain
-  pub known : now.journal.known ≡ known_by config
+  pub known : now.journal.known ≡ []
   pub about : now.journal.setup ≡ journal_setup_of (setup_of (job_of config) start)
   pub kept : now.journal.kept ≡ []
   pub entries : now.journal.entries ≡ 0
@@ -190,7 +189,7 @@ is_made config start opened times now sound new made =
                 (sym made.aggs)
                 ∙ ap (work_of now.proc.skip (steps_of now.proc.chain) now.proc.aggs) (sym made.filters);
             pushed = made.chain.each;
-            known = subst (IsKnownOf (job_of config).work) (sym made.known) (known_is config);
+            known = made.known;
             about = made.about;
             kept = made.kept;
             entries = made.entries;

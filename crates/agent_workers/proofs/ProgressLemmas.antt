@@ -1,6 +1,6 @@
 -- How far a run has come, with one entry more.
 use Rattle.std.proofs.Common.{◌≡◌, ◌≢◌, ◌≤◌, ◌<◌, ℕ, ℤ, length, set, Bool, true, false, List, [], ◌∷◌, ◌++◌, refl, sym}
-use Rattle.std.proofs.Common.{ap, ◌∙◌, subst, arith, append_assoc, append-nil}
+use Rattle.std.proofs.Common.{ap, ◌∙◌, subst, arith, append_assoc, append-nil, length-append}
 use Rattle.std.proofs.Common.{inl, inr}
 use Rattle.std.specs.Prelude.{not, count_by, slice_get, map}
 use Rattle.std.specs.Int.{int_max}
@@ -9,7 +9,7 @@ use Rattle.std.specs.declared.option.Option.{Option}
 use Rattle.std.specs.declared.option.Option.TheVariants.{Some, None}
 use Rattle.account.specs.Setup.{Setup}
 use Rattle.account.specs.Numbers.{Numbers, output_numbers}
-use Rattle.account.specs.Items.{items, takes_by}
+use Rattle.account.specs.Items.{items, routes, routes_by, takes_by}
 use Rattle.account.specs.Origins.{is_made, origins_by, is_of_input}
 use Rattle.account.specs.declared.entry.Entry.{Entry}
 use Rattle.account.specs.declared.entry.Entry.TheVariants.{Take, Route, Stop, Tick}
@@ -34,14 +34,20 @@ use Rattle.pipeline_core.specs.Stands.{Stands, Continues}
 use Rattle.account.specs.Dones.{dones_by, dones}
 use Rattle.pipeline_core.specs.Stopped.{behind_stop}
 use Rattle.agent_workers.specs.Noted.{JournalPart, Notes, NotesOn}
-use Rattle.journal_text.specs.Known.{AreKnown}
-use Rattle.agent_workers.proofs.KnownLemmas.{are_known}
+use Rattle.journal_text.specs.Known.{AreKnown, IsKnownRoute}
+use Rattle.journal_text.specs.declared.known.Known.{Known}
+use Rattle.journal_text.proofs.SoFarLemmas.{items-append, known_behind, known_more, known_route}
+use Rattle.account.proofs.RouteLemmas.{routes-push}
+use Rattle.agent_workers.proofs.NotedLemmas.{no_routes}
+use Rattle.account.specs.declared.entry.Report.{Report}
+use Rattle.std.specs.Option.{option_to_list}
+use Rattle.agent_workers.specs.Progress.{with_known}
 use Rattle.pipeline_core.specs.Order.{EndsFailed, IsFlushed, IsOrderly, IsTicked, is_tick, routes_gathered}
 use Rattle.pipeline_core.specs.Worked.{views_of, Worked}
 use Rattle.proc_chain.specs.Chain.{steps_of, AllStand}
 use Rattle.proc_chain.specs.declared.step.Step.{Step}
 use Rattle.pipeline_core.specs.declared.gathering.Item.{Item}
-use Rattle.agent_workers.specs.Job.{filters_of, journal_setup_of, output_sizes, work_of, IsKnownOf}
+use Rattle.agent_workers.specs.Job.{filters_of, journal_setup_of, output_sizes, work_of}
 use Rattle.account.specs.Routes.{RouteOnInOrder}
 use Rattle.agent_workers.specs.Inputs.{InPart, in_at, no_in}
 use Rattle.agent_workers.specs.RunState.{RunState, Beginning, setup_at}
@@ -74,12 +80,12 @@ use Rattle.agent_workers.proofs.PushedLemmas.{made_is, pushed_on, pushed_same, w
 use Rattle.agent_workers.proofs.TickLemmas.{ticked-push, ticked-tick}
 use Rattle.std.proofs.lemmas.Option.{slice_get_within}
 
--- the core stands for one entry more, and stores it
-pub text-push : (start : Beginning) (core next : CoreState) (part : JournalPart) (journal : List Entry) (e : Entry)
-    → HasText start core part journal → Continues core next e → next.stored ≡ core.stored ++ e ∷ []
-    → next.setup ≡ core.setup
-    → HasText start next part (journal ++ e ∷ [])
-text-push start core next part journal e h more stored same = record {
+-- the core stands for one entry more, and stores it; of it so much is known
+with_entry : (start : Beginning) (core next : CoreState) (part : JournalPart) (journal : List Entry) (e : Entry)
+    (h : HasText start core part journal) → Continues core next e → next.stored ≡ core.stored ++ e ∷ []
+    → next.setup ≡ core.setup → (known : List Known) → AreKnown known (items h.written) (core.stored ++ e ∷ [])
+    → length known ≡ routes (core.stored ++ e ∷ []) → HasText start next (with_known part known) (journal ++ e ∷ [])
+with_entry start core next part journal e h more stored same known are count = record {
   stands = more journal h.stands;
   setup_is = same ∙ h.setup_is;
   more = h.more ++ e ∷ [];
@@ -87,9 +93,47 @@ text-push start core next part journal e h more stored same = record {
   written = h.written;
   split = ap (λ (es : List Entry). es ++ e ∷ []) h.split ∙ append_assoc h.written core.stored (e ∷ [])
       ∙ ap (λ (es : List Entry). h.written ++ es) (sym stored);
-  notes = h.notes;
-  known = h.known;
+  notes = record {
+    about = h.notes.about;
+    counted = h.notes.counted;
+    kept_are = h.notes.kept_are;
+    in_order = h.notes.in_order;
+    later = h.notes.later;
+    put = h.notes.put;
+  };
+  known = subst (AreKnown known (items h.written)) (sym stored) are;
+  each_known = count ∙ ap routes (sym stored);
 }
+
+-- one that is no Route
+pub text-push : (start : Beginning) (core next : CoreState) (part : JournalPart) (journal : List Entry) (e : Entry)
+    → routes_by e ≡ 0 → HasText start core part journal → Continues core next e
+    → next.stored ≡ core.stored ++ e ∷ [] → next.setup ≡ core.setup
+    → HasText start next part (journal ++ e ∷ [])
+text-push start core next part journal e other h more stored same =
+    with_entry start core next part journal e h more stored same part.known
+    (known_more part.known (items h.written) core.stored e other h.known)
+    (let pushed = routes-push core.stored e in omega (arith, h.each_known, pushed, other))
+
+-- a Route, of which this is known, as its item says
+pub text-route : (start : Beginning) (core next : CoreState) (part : JournalPart) (journal : List Entry) (known : Known)
+    (routed : ℕ) (whole : Option Content) (verdict : Verdict) (aggs outs : List (Option Content))
+    (reports : List Report) (h : HasText start core part journal)
+    → Continues core next (Route routed whole verdict aggs outs reports)
+    → next.stored ≡ core.stored ++ Route routed whole verdict aggs outs reports ∷ [] → next.setup ≡ core.setup
+    → IsKnownRoute known (option_to_list (slice_get (items journal) routed)) whole aggs outs
+    → HasText start next (with_known part (part.known ++ known ∷ []))
+    (journal ++ Route routed whole verdict aggs outs reports ∷ [])
+text-route start core next part journal known routed whole verdict aggs outs reports h more stored same is =
+    let e : Entry = Route routed whole verdict aggs outs reports in
+    let named : items journal ≡ items h.written ++ items core.stored =
+    ap items h.split ∙ items-append h.written core.stored in
+    let one : routes_by e ≡ 1 = refl in
+    with_entry start core next part journal e h more stored same (part.known ++ known ∷ [])
+    (known_route part.known (items h.written) core.stored known routed whole verdict aggs outs reports h.each_known
+    (subst (λ (xs : List Content). IsKnownRoute known (option_to_list (slice_get xs routed)) whole aggs outs) named is)
+    h.known)
+    (omega (arith, h.each_known, routes-push core.stored e, one, length-append part.known (known ∷ [])))
 
 -- the Routes of the entries that the core stores come in order
 pub stored_in_order : (start : Beginning) (core : CoreState) (part : JournalPart) (journal : List Entry)
@@ -97,21 +141,17 @@ pub stored_in_order : (start : Beginning) (core : CoreState) (part : JournalPart
 stored_in_order start core part journal h = legal_rest_in_order core.setup h.written core.stored
     (subst (IsLegal core.setup) h.split h.stands.legal)
 
--- and what is known of them is so
-pub stored_known : (start : Beginning) (core : CoreState) (part : JournalPart) (journal : List Entry)
-    (h : HasText start core part journal) → Worked start.job.work journal
-    → AreKnown part.known (items h.written) core.stored
-stored_known start core part journal h worked =
-    are_known start.job.work part.known journal h.written core.stored h.known h.split
-    (stored_in_order start core part journal h) worked
+-- whatever is known, it is so of no entries
+pub none_known : (known : List Known) (named : List Content) → AreKnown known named []
+unfolding AreKnown
+none_known known named = tt
 
 -- the entries that the core stored are noted
 pub text-cut : (start : Beginning) (core next : CoreState) (part more : JournalPart) (journal : List Entry)
-    → HasText start core part journal → Worked start.job.work journal
-    → ((es : List Entry) → Stands core es → Stands next es) → next.stored ≡ [] → next.setup ≡ core.setup
-    → NotesOn core.stored part more
+    → HasText start core part journal → ((es : List Entry) → Stands core es → Stands next es)
+    → next.stored ≡ [] → next.setup ≡ core.setup → NotesOn core.stored part more
     → HasText start next more journal
-text-cut start core next part more journal h worked stands none same notes = record {
+text-cut start core next part more journal h stands none same notes = record {
   stands = stands journal h.stands;
   setup_is = same ∙ h.setup_is;
   more = h.more;
@@ -121,8 +161,10 @@ text-cut start core next part more journal h worked stands none same notes = rec
   notes = subst (λ (es : List Entry). Notes (journal_setup_of (setup_at start)) start.noted start.note_faults es more)
       (sym h.split)
       (notes.noted (journal_setup_of (setup_at start)) start.noted start.note_faults h.written h.notes
-      (stored_in_order start core part journal h) (stored_known start core part journal h worked));
-  known = subst (IsKnownOf start.job.work) (sym notes.known_same) h.known;
+      (stored_in_order start core part journal h) h.known);
+  known = subst (AreKnown more.known (items journal)) (sym none) (none_known more.known (items journal));
+  each_known = ap length (notes.known_left ∙ known_behind part.known core.stored h.each_known)
+      ∙ sym (ap routes none ∙ no_routes);
 }
 
 -- what is buffered at an output is what the journal says
@@ -243,6 +285,7 @@ went_front start now w =
       split = w.text.split;
       notes = w.text.notes;
       known = w.text.known;
+      each_known = w.text.each_known;
     }) w.order w.still
 
 -- and that front goes on from the one before it
@@ -260,6 +303,7 @@ went_back start now last w v =
       split = v.text.split;
       notes = v.text.notes;
       known = v.text.known;
+      each_known = v.text.each_known;
     }) (record { in_order = v.order.in_order; none_raw = v.order.none_raw; has_ticked = v.order.has_ticked }) v.still
 
 -- ---- steps
@@ -382,14 +426,17 @@ first_mark (m ∷ marks) mark h at =
     let one : m ≡ true = h.0 in
     cc
 
--- the first raw item was taken and routed
+-- the first raw item was taken and routed, and so much is known of its Route
 module _ (start : Beginning) (core mid next : CoreState) (now : RunState) (proc new_proc : ProcPart) (item : Item)
-    (whole : Option Content) (answer : Verdict) (ticked : Bool) (fresh : AreAnew now.outs)
+    (whole : Option Content) (answer : Verdict) (known : List Known) (of_it : Known) (ticked : Bool)
+    (fresh : AreAnew now.outs)
     (stays : StaysTicked now.ticked ticked core) (takes : TakesNext core mid item)
     (routed : next ≡ after_route mid (routed_by proc item whole) answer next.bank)
     (routes : Continues mid next (route_entry mid (routed_by proc item whole) answer))
     (makes : Makes proc new_proc item whole) (same : IsSameProc proc new_proc)
-    (w : Progress start (record now { core = core; proc = proc })) where
+    (it_is : IsKnownRoute of_it (item.metric ∷ []) whole (seen_by proc.aggs item.made whole)
+    (views_of (filters_of proc.outs) whole))
+    (w : Progress start (record now { core = core; proc = proc; journal = with_known now.journal known })) where
   abbrev taking : Entry
   taking = Take core.taken
 
@@ -449,15 +496,29 @@ module _ (start : Beginning) (core mid next : CoreState) (now : RunState) (proc 
       ticked-push start.job.work between (setup_at start) routing refl (ap not there) worked_between
       (ticked-push start.job.work w.journal (setup_at start) taking refl refl w.worked (w.order.has_ticked so.0 f))
 
-  pub went_item : Progress start (record now { core = next; proc = new_proc; ticked = ticked; still = 0 })
+  -- what is known of its Route is so of the item that the journal names
+  known_so : IsKnownRoute of_it (option_to_list (slice_get (items between) core.taken)) whole
+      (seen_by proc.aggs item.made whole) (views_of (filters_of proc.outs) whole)
+  known_so = subst (λ (xs : List Content). IsKnownRoute of_it xs whole (seen_by proc.aggs item.made whole)
+      (views_of (filters_of proc.outs) whole))
+      (sym (ap option_to_list (item_stays w.journal taking core.taken item.metric at))) it_is
+
+  pub went_item : Progress start (record now {
+    core = next;
+    proc = new_proc;
+    journal = with_known now.journal (known ++ of_it ∷ []);
+    ticked = ticked;
+    still = 0;
+  })
   went_item = record {
     journal = between ++ routing ∷ [];
-    text = text-push start mid next now.journal between routing
-        (text-push start core mid now.journal w.journal taking w.text takes.continues
+    text = text-route start mid next (with_known now.journal known) between of_it core.taken whole shape.0
+        (seen_by proc.aggs item.made whole) (views_of (filters_of proc.outs) whole) shape.1
+        (text-push start core mid (with_known now.journal known) w.journal taking refl w.text takes.continues
         (ap (λ (x : CoreState). x.stored) takes.after)
         (ap (λ (x : CoreState). x.setup) takes.after)) (subst (Continues mid next) entry_is routes)
         (ap (λ (x : CoreState). x.stored) routed ∙ ap (λ (x : Entry). mid.stored ++ x ∷ []) entry_is)
-        (ap (λ (x : CoreState). x.setup) routed);
+        (ap (λ (x : CoreState). x.setup) routed) known_so;
     in_count = w.in_count;
     heard = all_heard_push start.ins now.ins between routing (λ k. record { none = refl; other = refl })
         (all_heard_push start.ins now.ins w.journal taking (λ k. record { none = refl; other = refl }) w.heard);
@@ -483,7 +544,7 @@ pub went_cut : (start : Beginning) (core next : CoreState) (part more : JournalP
     → Progress start (record now { core = next; journal = more })
 went_cut start core next part more now stands is notes w =
     carried start start.front (record now { core = core; journal = part }) next more now.next now.timer now.still w
-    (text-cut start core next part more w.journal w.text w.worked stands (ap (λ (s : CoreState). s.stored) is)
+    (text-cut start core next part more w.journal w.text stands (ap (λ (s : CoreState). s.stored) is)
     (ap (λ (s : CoreState). s.setup) is) notes) w.order w.still
 
 -- no entry was stored
@@ -532,7 +593,7 @@ went_stop start core next now outs new_outs moment none_raw settled are fresh st
     record {
       progress = record {
         journal = w.journal ++ e ∷ [];
-        text = text-push start core next now.journal w.journal e w.text (subst
+        text = text-push start core next now.journal w.journal e refl w.text (subst
             (Continues core next) shape.1 stops.continues)
             (ap (λ (s : CoreState). s.stored) stops.after ∙ ap (λ (x : Entry). core.stored ++ x ∷ []) shape.1)
             (ap (λ (s : CoreState). s.setup) stops.after);
@@ -576,7 +637,7 @@ went_tick start core next now moment ticks w =
     let e : Entry = Tick (int_max moment core.counted) shape.0 in
     record {
       journal = w.journal ++ e ∷ [];
-      text = text-push start core next now.journal w.journal e w.text (subst
+      text = text-push start core next now.journal w.journal e refl w.text (subst
           (Continues core next) shape.1 ticks.continues)
           (ap (λ (s : CoreState). s.stored) ticks.after ∙ ap (λ (x : Entry). core.stored ++ x ∷ []) shape.1)
           (ap (λ (s : CoreState). s.setup) ticks.after);

@@ -32,7 +32,10 @@ use Rattle.agent_workers.proofs.OutLemmas.{are_anew}
 use Rattle.agent_workers.proofs.ProgressLemmas.{carried, went_anew, went_next, went_timed}
 use Rattle.agent_base.specs.Moments.{Waits}
 use Rattle.std.specs.Prelude.{◌||◌, ◌+◌, if◌then◌else◌}
-use Rattle.agent_workers.specs.Progress.{routing, still_after, still_flushed, RoutesWhere, TellsOn}
+use Rattle.account.specs.Items.{items, routes}
+use Rattle.journal_text.specs.Known.{AreKnown}
+use Rattle.journal_text.specs.declared.known.Known.{Known}
+use Rattle.agent_workers.specs.Progress.{routing, with_known, still_after, still_flushed, RoutesWhere, TellsOn}
 use Rattle.agent_workers.specs.Rounds.{still_behind}
 use Rattle.agent_workers.specs.declared.output.Flush.{Flush}
 use Rattle.agent_workers.specs.declared.rounds.Round.{Round}
@@ -60,10 +63,11 @@ stays_then before after core next made h = λ t. (t, made (h t).1)
 
 -- more items were routed, and the entries spelled
 pub routes_more : (first old routed new : CoreState) (proc0 proc new_proc : ProcPart)
-    (part0 part new_part : JournalPart) → (AllMade first.made → AllMade old.made)
-    → RoutesOn (routing first proc0 part0) (routing old proc part) → GoesOn old routed proc new_proc
-    → NotesRun routed new part new_part → RoutesOn (routing first proc0 part0) (routing new new_proc new_part)
-routes_more first old routed new proc0 proc new_proc part0 part new_part made routes goes notes =
+    (part0 part new_part : JournalPart) (known : List Known) → (AllMade first.made → AllMade old.made)
+    → RoutesOn (routing first proc0 part0) (routing old proc part)
+    → GoesOn old routed proc new_proc part.known known → NotesRun routed new (with_known part known) new_part
+    → RoutesOn (routing first proc0 part0) (routing new new_proc new_part)
+routes_more first old routed new proc0 proc new_proc part0 part new_part known made routes goes notes =
     λ start now ticked anew stays w.
     notes start (record now { proc = new_proc; ticked = ticked; still = 0 })
     (goes start (record now { journal = part; ticked = ticked; still = 0 }) ticked anew
@@ -71,17 +75,18 @@ routes_more first old routed new proc0 proc new_proc part0 part new_part made ro
 
 -- the last items were routed
 pub routes_last : (first old new : CoreState) (proc0 proc new_proc : ProcPart) (part0 part : JournalPart)
-    → (AllMade first.made → AllMade old.made) → RoutesOn (routing first proc0 part0) (routing old proc part)
-    → GoesOn old new proc new_proc
-    → RoutesOn (routing first proc0 part0) (routing new new_proc part)
-routes_last first old new proc0 proc new_proc part0 part made routes goes = λ start now ticked anew stays w.
+    (known : List Known) → (AllMade first.made → AllMade old.made)
+    → RoutesOn (routing first proc0 part0) (routing old proc part) → GoesOn old new proc new_proc part.known known
+    → RoutesOn (routing first proc0 part0) (routing new new_proc (with_known part known))
+routes_last first old new proc0 proc new_proc part0 part known made routes goes = λ start now ticked anew stays w.
     goes start (record now { journal = part; ticked = ticked; still = 0 }) ticked anew
     (stays_then now.ticked ticked first old made stays) (routes start now ticked anew stays w)
 
 -- items were routed, and then more
-pub goes_more : (first old new : CoreState) (proc0 proc new_proc : ProcPart) → (AllMade first.made → AllMade old.made)
-    → GoesOn first old proc0 proc → GoesOn old new proc new_proc → GoesOn first new proc0 new_proc
-goes_more first old new proc0 proc new_proc made routes goes = λ start now ticked anew stays w.
+pub goes_more : (first old new : CoreState) (proc0 proc new_proc : ProcPart) (known0 known new_known : List Known)
+    → (AllMade first.made → AllMade old.made) → GoesOn first old proc0 proc known0 known
+    → GoesOn old new proc new_proc known new_known → GoesOn first new proc0 new_proc known0 new_known
+goes_more first old new proc0 proc new_proc known0 known new_known made routes goes = λ start now ticked anew stays w.
     goes start (record now { ticked = ticked; still = 0 }) ticked anew
     (stays_then now.ticked ticked first old made stays)
     (routes start now ticked anew stays w)
@@ -309,7 +314,9 @@ went_told core next same stands = λ start now w.
       written = w.text.written;
       split = w.text.split ∙ ap (λ (s : CoreState). w.text.written ++ s.stored) (sym same);
       notes = w.text.notes;
-      known = w.text.known;
+      known = subst (λ (s : CoreState). AreKnown now.journal.known (items w.text.written) s.stored) (sym same)
+          w.text.known;
+      each_known = w.text.each_known ∙ ap (λ (s : CoreState). routes s.stored) (sym same);
     }) w.order w.still
 
 -- reports were taken out twice

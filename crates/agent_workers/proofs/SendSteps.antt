@@ -122,8 +122,8 @@ module _ (start : Beginning) (core mid next : CoreState) (now : RunState) (old n
       let between : List Entry = w.journal ++ begin ∷ [] in
       record {
         journal = between ++ end ∷ [];
-        text = text-push start mid next now.journal between end
-            (text-push start core mid now.journal w.journal begin w.text begins (ap (λ (s : CoreState). s.stored) began)
+        text = text-push start mid next now.journal between end refl
+            (text-push start core mid now.journal w.journal begin refl w.text begins (ap (λ (s : CoreState). s.stored) began)
             (ap (λ (s : CoreState). s.setup) began))
             (subst (Continues mid next) shape.1 ends) stored (ap (λ (s : CoreState). s.setup) done);
         in_count = w.in_count;

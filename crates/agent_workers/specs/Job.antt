@@ -1,7 +1,6 @@
 -- What a run is to do: a configuration, the job that it is, the set-up of the job's journal, and the
 -- journal's head are made one of the other.
-use Rattle.std.specs.Prelude.{◌≡◌, ◌==◌, ◌++◌, ◌∷◌, [], ℕ, ℤ, Bool, true, List, length, map, if◌then◌else◌}
-use Rattle.std.specs.List.{list_all, AllByRecursion}
+use Rattle.std.specs.Prelude.{ℕ, ℤ, Bool, List, map, if◌then◌else◌}
 use Rattle.std.specs.declared.option.Option.{Option}
 use Rattle.std.specs.declared.option.Option.TheVariants.{Some, None}
 use Rattle.account.specs.Setup.{Setup}
@@ -12,10 +11,9 @@ use Rattle.agent_config.specs.declared.config.InputConf.{InputConf}
 use Rattle.agent_config.specs.declared.config.OutputConf.{OutputConf}
 use Rattle.format_words.specs.declared.format.OutFormat.{OutFormat}
 use Rattle.formats.specs.Reader.{InRule, in_rule}
-use Rattle.journal_text.specs.declared.known.Known.{Known}
 use Rattle.journal_text.specs.declared.setup.JournalSetup.{JournalSetup}
 use Rattle.metric.specs.declared.metric.Content.{Content}
-use Rattle.metric_filter.specs.Filter.{applied, leaves_all_parts, GivesItself}
+use Rattle.metric_filter.specs.Filter.{applied}
 use Rattle.pipeline_core.specs.Work.{Work}
 use Rattle.proc_chain.specs.Steps.{whole as whole_by}
 use Rattle.proc_chain.specs.declared.step.Step.{Step}
@@ -104,23 +102,3 @@ setup_of job start = record
 abbrev pub journal_setup_of : Setup → JournalSetup
 journal_setup_of setup = record
     { start = setup.start; inputs = setup.inputs; aggs = setup.aggs; outputs = setup.outputs }
-
--- each of these filters gives a metric as it is, or nothing
-abbrev pub GiveThemselves : List (Content → Option Content) → Type 0
-GiveThemselves filters = AllByRecursion (λ (filter : Content → Option Content). GivesItself filter) filters
-
--- what is known of the Routes of a run, by what it makes of its items: that its processors change nothing, and that the
--- filters of its aggregators, and of its outputs, give the whole, or nothing
-pub record IsKnownOf (work : Work) (known : Known) : Type 0 where
-  pub whole : known.whole ≡ true → (list : List Content) (m : Content) → work.whole (list ++ m ∷ []) ≡ Some m
-  pub aggs : known.aggs ≡ true → GiveThemselves work.aggs
-  pub outs : known.outs ≡ true → GiveThemselves work.outs
-
--- what a configuration tells of them: that it has no processors, and that no rule of these filters is for fields and
--- tags
-abbrev pub known_by : Config → Known
-known_by config = record {
-  whole = length config.steps == 0;
-  aggs = list_all (λ (agg : AggConf). leaves_all_parts agg.filter) config.aggs;
-  outs = list_all (λ (output : OutputConf). leaves_all_parts output.filter) config.outputs;
-}

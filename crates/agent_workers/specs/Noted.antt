@@ -1,10 +1,10 @@
 -- What was put of a journal's text, as far as the run has come.
-use Rattle.std.specs.Prelude.{◌≡◌, ◌≤◌, ◌+◌, ℕ, Bool, true, false, List, ◌++◌, length, take}
+use Rattle.std.specs.Prelude.{◌≡◌, ◌≤◌, ◌+◌, ℕ, Bool, true, false, List, ◌++◌, drop, length, take}
 use Rattle.std.specs.Io.KnownBytes.{Appends}
 use Rattle.std.specs.declared.option.Option.{Option}
 use Rattle.metric.specs.declared.metric.Content.{Content}
 use Rattle.account.specs.declared.entry.Entry.{Entry}
-use Rattle.account.specs.Items.{items, unrouted_items}
+use Rattle.account.specs.Items.{items, routes, unrouted_items}
 use Rattle.agent_base.specs.Carried.{Carried}
 use Rattle.agent_base.specs.Counts.{Rose}
 use Rattle.journal_text.specs.declared.setup.JournalSetup.{JournalSetup}
@@ -16,12 +16,12 @@ use Rattle.account.specs.Routes.{RoutesInOrder, RouteOnInOrder}
 use Rattle.agent_workers.specs.declared.journal.JournalJob.{JournalJob}
 use Rattle.journal_text.specs.SoFar.{text_so_far, noted_text, SpellsOn}
 
--- the journal's part of a run: what the journal is about, what is known of its Routes, the items that have no Route
--- yet,
--- how many entries there were, whether a put failed, and the bytes and the count of failed puts at the journal's place
+-- the journal's part of a run: what the journal is about, what is known of the Routes that aren't spelled yet, the items
+-- that have no spelled Route, how many entries there were, whether a put failed, and the bytes and the count of failed
+-- puts at the journal's place
 pub record JournalPart : Type 0 where
   pub setup : JournalSetup
-  pub known : Known
+  pub known : List Known
   pub kept : List Content
   pub entries : ℕ
   pub failed : Bool
@@ -32,7 +32,7 @@ pub record JournalPart : Type 0 where
 abbrev pub part_of : {K C : Type 0} → (K → Carried) → JournalJob K C → JournalPart
 part_of told job = record {
   setup = job.setup;
-  known = job.known;
+  known = job.known.items;
   kept = job.kept.items;
   entries = job.entries;
   failed = job.failed;
@@ -85,17 +85,16 @@ pub record SpellsOut (entries : List Entry) (old new : JournalPart) (waiting res
   pub spelled : SpellsOn old.known entries old.kept new.kept waiting (front ++ rest)
   pub put : IsPartPut old.failed new.failed (part_change old new) front
   pub about : new.setup ≡ old.setup
-  pub known_same : new.known ≡ old.known
+  pub known_left : new.known ≡ drop (routes entries) old.known
   pub counted : new.entries ≡ old.entries + length entries
 
 -- the part noted a journal, and now notes it with these entries behind it, where their Routes come in order, and what
--- is
--- known of them is so
+-- is known of them is so
 pub record NotesOn (entries : List Entry) (old new : JournalPart) : Type 0 where
   pub noted : (setup : JournalSetup) (held : Option (List ℕ)) (faults : ℕ) (journal : List Entry) →
       Notes setup held faults journal old → RouteOnInOrder journal entries → AreKnown old.known (items journal) entries
       → Notes setup held faults (journal ++ entries) new
-  pub known_same : new.known ≡ old.known
+  pub known_left : new.known ≡ drop (routes entries) old.known
 
 -- the part noted a journal, and the whole text of the journal with these entries behind it is put, or a
 -- prefix where a put failed

@@ -4,7 +4,7 @@ use Rattle.std.specs.Prelude.{IfSome, slice_set, take, ◌∷◌, false, if◌th
 use Rattle.std.specs.List.{filter, zip}
 use Rattle.std.specs.Int.{int_max}
 use Rattle.account.specs.Says.{GatherSays}
-use Rattle.account.specs.Items.{items, taken}
+use Rattle.account.specs.Items.{items, routes, taken}
 use Rattle.account.specs.Origins.{Origin, origins, raw_of}
 use Rattle.account.specs.declared.entry.Entry.{Entry}
 use Rattle.account.specs.declared.entry.Entry.TheVariants.{Stop}
@@ -29,7 +29,9 @@ use Rattle.pipeline_core.specs.Stopped.{behind_stop}
 use Rattle.account.specs.EntryMoments.{counted_moments}
 use Rattle.agent_workers.specs.Noted.{JournalPart, Notes}
 use Rattle.pipeline_core.specs.Order.{EndsFailed, InOrder, IsTicked}
-use Rattle.agent_workers.specs.Job.{journal_setup_of, IsKnownOf}
+use Rattle.agent_workers.specs.Job.{journal_setup_of}
+use Rattle.journal_text.specs.Known.{AreKnown}
+use Rattle.journal_text.specs.declared.known.Known.{Known}
 use Rattle.pipeline_core.specs.Sent.{Sent}
 use Rattle.formats.specs.Batches.{batch_text}
 use Rattle.agent_workers.specs.Output.{AppendsSo, OutPart, out_at, AreAnew, FailedLast}
@@ -45,8 +47,7 @@ use Rattle.pipeline_core.specs.Worked.{Worked, is_pushed}
 use Rattle.proc_chain.specs.Chain.{AllStand}
 
 -- the core stands for a journal, which goes on from the one that the run continues, and whose entries are
--- noted but for those that the core stores; what is taken as known of its Routes is so, by what the run makes of its
--- items
+-- noted but for those that the core stores; of each Route among those something is known, and that is so
 pub record HasText (start : Beginning) (core : CoreState) (part : JournalPart)
     (journal : List Entry) : Type 0 where
   pub stands : Stands core journal
@@ -56,7 +57,8 @@ pub record HasText (start : Beginning) (core : CoreState) (part : JournalPart)
   pub written : List Entry
   pub split : journal ≡ written ++ core.stored
   pub notes : Notes (journal_setup_of (setup_at start)) start.noted start.note_faults written part
-  pub known : IsKnownOf start.job.work part.known
+  pub known : AreKnown part.known (items written) core.stored
+  pub each_known : length part.known ≡ routes core.stored
 
 -- while an input is read on its Gathers name full groups up to the pieces that are to come, or all pieces; else
 -- they name groups of its text, all pieces where it has ended
@@ -167,12 +169,17 @@ still_after false still = still
 abbrev pub StaysTicked : Bool → Bool → CoreState → Type 0
 StaysTicked before after core = after ≡ true → (before ≡ true) × AllMade core.made
 
--- a step that routes items, while no batch failed
-abbrev pub GoesOn : CoreState → CoreState → ProcPart → ProcPart → Type 0
-GoesOn old new proc new_proc = (start : Beginning) (now : RunState) (ticked : Bool) → AreAnew now.outs
+-- a journal's part with this known of the Routes that aren't spelled
+abbrev pub with_known : JournalPart → List Known → JournalPart
+with_known part known = record part { known = known }
+
+-- a step that routes items, and keeps what is known of their Routes, while no batch failed
+abbrev pub GoesOn : CoreState → CoreState → ProcPart → ProcPart → List Known → List Known → Type 0
+GoesOn old new proc new_proc known new_known = (start : Beginning) (now : RunState) (ticked : Bool) → AreAnew now.outs
     → StaysTicked now.ticked ticked old
-    → Progress start (record now { core = old; proc = proc })
-    → Progress start (record now { core = new; proc = new_proc; ticked = ticked; still = 0 })
+    → Progress start (record now { core = old; proc = proc; journal = with_known now.journal known })
+    → Progress start (record now
+    { core = new; proc = new_proc; journal = with_known now.journal new_known; ticked = ticked; still = 0 })
 
 -- what routing moves on: the core, what routes, and the journal's part
 pub record Routing : Type 0 where

@@ -1,9 +1,9 @@
 //! The journal's part of a run: it puts the text of the entries as they come.
-ghost use Rattle.std.specs.Prelude.{◌≡◌, ◌≢◌, ◌++◌, ◌∷◌, [], false, length, All, IfOk, OnOk};
+ghost use Rattle.std.specs.Prelude.{◌≡◌, ◌≢◌, ◌++◌, ◌∷◌, [], drop, false, length, All, IfOk, OnOk};
 ghost use Rattle.std.specs.Option.{option_to_list};
-ghost use Rattle.account.specs.Items.{named_by};
+ghost use Rattle.account.specs.Items.{named_by, routes_by};
 ghost use Rattle.journal_text.specs.JournalText.{metric_lines, HasItem, IsWholeOrRemoved};
-ghost use Rattle.journal_text.specs.Known.{entry_as};
+ghost use Rattle.journal_text.specs.Known.{entry_as, known_of};
 ghost use Rattle.pipeline_core.specs.CoreState.{CoreState};
 ghost use Rattle.pipeline_core.specs.Steps.{after_cut};
 ghost use Rattle.agent_workers.specs.Noted.{part_of, IsPartPut, GoesOut, SpellsOut, NotesOn, EndsOn};
@@ -32,7 +32,7 @@ const FULL: usize = 1 << 20;
 const MOST_ROOM: usize = 1 << 22;
 
 /// The journal's part of a run: what the journal is about, where its text goes, and what is needed to go on
-/// with it. What is known of the Routes isn't looked for as they are spelled.
+/// with it. What is known of a Route isn't looked for as it is spelled.
 ///
 /// The text goes out in parts, one put each, which end behind a line. The first part begins with the set-up,
 /// and the last one ends with the account and the number of entries. After a put that failed nothing more is
@@ -40,13 +40,13 @@ const MOST_ROOM: usize = 1 << 22;
 #[derive(Drop)]
 pub struct JournalJob<K: Drop, C: Drop> {
     pub setup: JournalSetup,
-    /// What is known of its Routes, by what the run makes of its items.
-    pub known: Known,
     pub sink: K,
     /// Its clock, which is asked for no moment yet.
     pub clock: C,
-    /// The items that have no Route yet, oldest first.
+    /// The items that have no spelled Route yet, oldest first.
     pub kept: VecDeque<Metric>,
+    /// What is known of the Routes that aren't spelled yet, oldest first.
+    pub known: VecDeque<Known>,
     /// How many entries there were.
     pub entries: u64,
     /// Whether a put failed.
@@ -55,26 +55,20 @@ pub struct JournalJob<K: Drop, C: Drop> {
 
 impl<K: Sink + Drop, C: Drop> JournalJob<K, C> {
     /// The part of a journal without an entry: nothing is put.
-    pub fn new(
-        alloc: Global,
-        setup: JournalSetup,
-        known: Known,
-        sink: K,
-        clock: C,
-    ) -> JournalJob<K, C>
+    pub fn new(alloc: Global, setup: JournalSetup, sink: K, clock: C) -> JournalJob<K, C>
         ensures setup { result.setup ≡ setup }
-        ensures known { result.known ≡ known }
         ensures sink { result.sink ≡ sink }
         ensures kept { result.kept.items ≡ [] }
+        ensures known { result.known.items ≡ [] }
         ensures entries { result.entries ≡ 0 }
         ensures going { result.failed ≡ false }
     {
         JournalJob {
             setup,
-            known,
             sink,
             clock,
             kept: VecDeque::new(alloc),
+            known: VecDeque::new(alloc),
             entries: 0,
             failed: false,
         }
@@ -166,27 +160,29 @@ impl<K: Sink + Drop, C: Drop> JournalJob<K, C> {
             text.old.items text.new.items) }
     {
         let item = item_of(&mut self.kept, entry)?;
-        self.write_lines(alloc, item.as_slice(), entry, text)?;
+        let known = known_of(&mut self.known, entry);
+        self.write_lines(alloc, known, entry, item.as_slice(), text)?;
         keep_named(alloc, &mut self.kept, entry)?;
         self.entries = self.entries.checked_add(1).ok_or(OutOfMemory)?;
         Ok(())
     }
 
-    // Adds the lines of an entry to a text, with the item of a Route.
+    // Adds the lines of an entry to a text, with the item of a Route and what is known of it.
     fn write_lines(
         &mut self,
         alloc: Global,
-        item: &[Metric],
+        known: Known,
         entry: &Entry,
+        item: &[Metric],
         text: &mut Vec<u8>,
     ) -> Result<(), OutOfMemory>
         requires item { HasItem item.now entry.now }
         requires whole { IsWholeOrRemoved entry.now }
         ensures { OnOk result (GoesOut
             (part_of K.told self.old) (part_of K.told self.new)
-            text.old.items (entry_as self.old.known item.now entry.now) text.new.items) }
+            text.old.items (entry_as known item.now entry.now) text.new.items) }
     {
-        write_head(alloc, self.known, item, entry, text)?;
+        write_head(alloc, known, item, entry, text)?;
         self.write_metrics(alloc, named_by(entry), text)?;
         write_reports(entry, text)?;
         self.put_full(text)?;
@@ -296,6 +292,17 @@ fn item_of(
         Entry::Done { .. } => Ok(None),
         Entry::Tick { .. } => Ok(None),
         Entry::Stop { .. } => Ok(None),
+    }
+}
+
+// What is known of an entry: of a Route the first of what is known of those that aren't spelled yet.
+fn known_of(known: &mut VecDeque<Known>, entry: &Entry) -> Known
+    ensures first { result ≡ known_of known.old.items entry.now }
+    ensures rest { known.new.items ≡ drop (routes_by entry.now) known.old.items }
+{
+    match entry {
+        Entry::Route { .. } => known.pop_front().unwrap_or(Known::nothing()),
+        _ => Known::nothing(),
     }
 }
 

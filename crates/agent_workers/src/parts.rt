@@ -18,7 +18,7 @@ use crate::input::InJob;
 use crate::item::ProcJob;
 use crate::journal::JournalJob;
 use crate::output::OutJob;
-use crate::setup::{journal_setup, known_by, limit_by, new_core};
+use crate::setup::{journal_setup, limit_by, new_core};
 use agent_base::{Clock, Pieces, Sink, Source};
 use agent_config::{Config, InputConf, OutputConf};
 use fixed_num::{Moment, OutOfMemory};
@@ -309,7 +309,7 @@ pub fn set_up<'a, S: Source + Drop, K: Sink + Drop, C: Clock + Drop>(
             clock: proc,
         },
         outputs: out_jobs,
-        journal: JournalJob::new(alloc, about, known_by(config), journal, journal_clock),
+        journal: JournalJob::new(alloc, about, journal, journal_clock),
         final_tries: config.agent.final_tries,
         back,
     };

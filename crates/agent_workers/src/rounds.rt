@@ -175,7 +175,7 @@ impl<'a, S: Source + Drop, K: Sink + Drop, C: Clock + Drop> Parts<'a, S, K, C> {
     {
         begin_anew(&mut self.outputs);
         core.stop(moment)?;
-        route_all(alloc, core, &mut self.proc)?;
+        route_all(alloc, core, &mut self.proc, &mut self.journal.known)?;
         send_rest(alloc, core, text, &mut self.outputs, self.final_tries)?;
         let_reports_go(core, &self.inputs);
         Ok(())
@@ -239,7 +239,7 @@ fn route_noted<K: Sink + Drop, C: Drop>(
         (routing core.new (proc_of proc.new) (part_of K.told journal.new))) }
 {
     for _part in 0..u64::MAX {
-        if !route_some(alloc, core, proc, ROUTED_AT_ONCE)? {
+        if !route_some(alloc, core, proc, &mut journal.known, ROUTED_AT_ONCE)? {
             return Ok(());
         }
         note(alloc, core, text, journal)?;

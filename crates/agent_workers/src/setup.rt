@@ -1,17 +1,15 @@
 //! What a run and its journal are about.
 ghost use Rattle.std.specs.Prelude.{◌≡◌, map, IfOk};
-ghost use Rattle.std.specs.List.{list_all};
 ghost use Rattle.agent_config.specs.Sound.{IsSound};
-ghost use Rattle.metric_filter.specs.Filter.{leaves_all_parts};
 ghost use Rattle.pipeline_core.specs.CoreState.{setup_of as core_setup_of};
-ghost use Rattle.agent_workers.specs.Job.{job_of, journal_setup_of, known_by, limit_by, line_of, setup_of};
+ghost use Rattle.agent_workers.specs.Job.{job_of, journal_setup_of, limit_by, line_of, setup_of};
 ghost use Rattle.agent_workers.specs.Job.{sizes_by};
 ghost use Rattle.agent_workers.specs.Opened.{in_setup, out_setup, IsNewCore};
 
 use account::AggLine;
 use agent_config::{AggConf, Config, InputConf, OutputConf};
 use fixed_num::{Moment, OutOfMemory, Seq};
-use journal_text::{JournalSetup, Known};
+use journal_text::JournalSetup;
 use pipeline_core::{Core, CoreSetup, InSetup, OutSetup};
 use std::alloc::Global;
 
@@ -126,30 +124,4 @@ pub fn new_core(alloc: Global, config: &Config, start: Moment) -> Result<Core, O
     let setup = core_setup(alloc, config, start)?;
     let core = Core::new(alloc, setup)?;
     Ok(core)
-}
-
-/// What is known of the Routes of a run before it begins: without steps each whole is its item, and a filter that leaves
-/// all parts of a metric gives the whole, or nothing.
-pub fn known_by(config: &Config) -> Known
-    ensures { result ≡ known_by config.now }
-{
-    Known {
-        whole: config.steps.as_slice().is_empty(),
-        aggs: aggs_leave_all(config.aggs.as_slice()),
-        outs: outputs_leave_all(config.outputs.as_slice()),
-    }
-}
-
-/// Does the filter of each aggregator leave all parts of a metric?
-fn aggs_leave_all(confs: &[AggConf]) -> bool
-    ensures { result ≡ list_all (λ agg. leaves_all_parts agg.filter) confs.now }
-{
-    confs.iter().all(|agg| agg.filter.leaves_all_parts())
-}
-
-/// Does that of each output?
-fn outputs_leave_all(confs: &[OutputConf]) -> bool
-    ensures { result ≡ list_all (λ output. leaves_all_parts output.filter) confs.now }
-{
-    confs.iter().all(|output| output.filter.leaves_all_parts())
 }

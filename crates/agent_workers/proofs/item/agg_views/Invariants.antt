@@ -1,7 +1,11 @@
-use Rattle.std.proofs.Common.{◌≡◌, take, Some}
+use Rattle.std.proofs.Common.{◌≡◌, take, Some, true}
+use Rattle.journal_text.specs.Known.{AreWhole}
 use Rattle.pipeline_core.specs.Worked.{views_of}
 use Rattle.agent_workers.specs.Job.{agg_filters}
 use Rattle.agent_workers.proofs.item.agg_views.Given as goal
 
 abbrev pub invariant-loop-conf : goal.invariant-loop-conf
-invariant-loop-conf l = l.seen.items ≡ views_of (agg_filters (take l.conf-index l.confs)) (Some l.metric)
+invariant-loop-conf l = record {
+  views : l.views.views.items ≡ views_of (agg_filters (take l.conf-index l.confs)) (Some l.metric);
+  same : l.views.same ≡ true → AreWhole (Some l.metric) l.views.views.items;
+}

@@ -1,5 +1,6 @@
 use Rattle.std.proofs.Common.{ap, arith, refl, Ok}
 use Rattle.agent_workers.specs.Item.{proc_of}
+use Rattle.agent_workers.specs.Progress.{with_known}
 use Rattle.agent_workers.proofs.RoundSteps.{goes_more}
 use Rattle.agent_workers.proofs.OutLemmas.{routable_same, routable_more}
 use Rattle.agent_workers.proofs.PartsLemmas.{proc_fits, proc_itself, same_proc}
@@ -17,8 +18,11 @@ loop-taken-init g c = record {
   fewer = omega arith;
   same = proc_itself (proc_of c.args.proc.now);
   goes = λ start now ticked anew stays w.
-      went_open start (record now { core = c.args.core.now; proc = proc_of c.args.proc.now }) ticked
-      (λ t. (stays t).0) w;
+      went_open start (record now {
+        core = c.args.core.now;
+        proc = proc_of c.args.proc.now;
+        journal = with_known now.journal c.args.known.now.items;
+      }) ticked (λ t. (stays t).0) w;
 }
 
 pub loop-taken-preserved : goal.loop-taken-preserved
@@ -34,12 +38,14 @@ loop-taken-preserved g c = record {
   same = same_proc (proc_of c.args.proc.now) (proc_of c.loop-taken.proc) (proc_of c.route_next.new.proc)
       c.loop-taken.invariant.same c.route_next.ensures.same;
   goes = goes_more c.args.core.now c.loop-taken.core c.route_next.new.core (proc_of c.args.proc.now)
-      (proc_of c.loop-taken.proc) (proc_of c.route_next.new.proc) c.loop-taken.invariant.kept.made
+      (proc_of c.loop-taken.proc) (proc_of c.route_next.new.proc) c.args.known.now.items c.loop-taken.known.items
+      c.route_next.new.known.items c.loop-taken.invariant.kept.made
       c.loop-taken.invariant.goes c.in_ok-route_next.ensures.goes;
 }
 
 pub returns-then-not-branch-clause-goes : goal.returns-then-not-branch-clause-goes
 returns-then-not-branch-clause-goes g c =
     goes_more c.args.core.now c.loop-taken.core c.route_next.new.core (proc_of c.args.proc.now)
-    (proc_of c.loop-taken.proc) (proc_of c.route_next.new.proc) c.loop-taken.invariant.kept.made
+    (proc_of c.loop-taken.proc) (proc_of c.route_next.new.proc) c.args.known.now.items c.loop-taken.known.items
+    c.route_next.new.known.items c.loop-taken.invariant.kept.made
     c.loop-taken.invariant.goes c.in_ok-route_next.ensures.goes

@@ -10,5 +10,5 @@ invariant-loop-taken g l = record {
   kept : IsRoutable l.fn.core l.core;
   fewer : length l.core.raw + l._taken ≡ length l.fn.core.raw;
   same : IsSameProc (proc_of l.fn.proc) (proc_of l.proc);
-  goes : GoesOn l.fn.core l.core (proc_of l.fn.proc) (proc_of l.proc);
+  goes : GoesOn l.fn.core l.core (proc_of l.fn.proc) (proc_of l.proc) l.fn.known.items l.known.items;
 }

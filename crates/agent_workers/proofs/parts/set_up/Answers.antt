@@ -90,7 +90,7 @@ returns-clause-made g c =
       skip = refl;
       filters = search rules;
       chain = c.in-Ok.ensures.chain;
-      known = c.new.ensures.known ∙ c.known_by.ensures;
+      known = c.new.ensures.known;
       about = c.new.ensures.setup ∙ c.in-Ok.ensures.about ∙ ap
           (λ (m : ℤ). journal_setup_of (setup_of (job_of config) m)) same_start;
       kept = c.new.ensures.kept;

@@ -26,7 +26,7 @@ use Rattle.agent_workers.specs.declared.parts.Parts.{Parts}
 use Rattle.agent_workers.proofs.InLemmas.{same_inputs}
 use Rattle.agent_workers.proofs.FinishSteps.{finished}
 use Rattle.agent_workers.proofs.RoundSteps.{all_held}
-use Rattle.agent_workers.proofs.ProgressLemmas.{stored_in_order, stored_known, went_timed}
+use Rattle.agent_workers.proofs.ProgressLemmas.{stored_in_order, went_timed}
 use Rattle.agent_workers.proofs.rounds.finish.Given.{Over}
 use Rattle.agent_workers.proofs.rounds.finish.Goals as goal
 
@@ -57,7 +57,7 @@ returns-clause-finished g c = λ job tries start counted is starts_count outs_co
     let stopped : Progress start last = stops.progress in
     let put_so = c.in_ok-account.ensures.ends (journal_setup_of (setup_at start)) start.noted start.note_faults
     stopped.text.written stopped.text.notes (stored_in_order start c.stop.new.core last.journal stopped.journal
-    stopped.text) (stored_known start c.stop.new.core last.journal stopped.journal stopped.text stopped.worked) in
+    stopped.text) stopped.text.known in
     let in_count : length c.stop.new.core.setup.inputs ≡ length start.job.inputs =
     ap (λ (s : Setup). length s.inputs) stopped.text.setup_is ∙ length-map start.job.inputs limit_of in
     let out_count : length c.stop.new.core.setup.outputs ≡ length start.job.outputs =

@@ -42,7 +42,7 @@ loop-part-preserved g c =
       routes = routes_more c.args.core.now c.loop-part.core c.route_some.new.core c.note.new.core
           (proc_of c.args.proc.now) (proc_of c.loop-part.proc) (proc_of c.route_some.new.proc)
           (noted g c.args.journal.now) (noted g c.loop-part.journal) (noted g c.note.new.journal)
-          c.loop-part.invariant.kept.made
+          c.route_some.new.known.items c.loop-part.invariant.kept.made
           c.loop-part.invariant.routes c.in_ok-route_some.ensures.goes c.in_ok-note.ensures.notes;
     }
 
@@ -50,7 +50,8 @@ pub returns-then-not-branch-clause-routes : goal.returns-then-not-branch-clause-
 returns-then-not-branch-clause-routes g c =
     routes_last c.args.core.now c.loop-part.core c.route_some.new.core (proc_of c.args.proc.now)
     (proc_of c.loop-part.proc) (proc_of c.route_some.new.proc)
-    (noted g c.args.journal.now) (noted g c.loop-part.journal) c.loop-part.invariant.kept.made
+    (noted g c.args.journal.now) (noted g c.loop-part.journal) c.route_some.new.known.items
+    c.loop-part.invariant.kept.made
     c.loop-part.invariant.routes
     c.in_ok-route_some.ensures.goes
 

@@ -14,7 +14,7 @@ use Rattle.pipeline_core.specs.Moments.{IsStoppedAt}
 use Rattle.agent_workers.specs.Inputs.{InPart, ins_of, AreInputs}
 use Rattle.agent_workers.specs.Item.{proc_of}
 use Rattle.agent_workers.specs.Output.{OutPart, out_at, outs_of, anew, AreAnew, AreOutputs}
-use Rattle.agent_workers.specs.Progress.{SendsOn, StopsAt}
+use Rattle.agent_workers.specs.Progress.{with_known, SendsOn, StopsAt}
 use Rattle.agent_workers.specs.Rounds.{HasStopped}
 use Rattle.agent_workers.specs.RunState.{Beginning, RunState, state_of, AreFit, IsAboutSame}
 use Rattle.agent_workers.specs.declared.input.InJob.{InJob}
@@ -65,6 +65,7 @@ out_jobs g c = with_items_is (with_items c.args.self.now.outputs c.begin_anew.ne
 abbrev parts : (g : Over) → After-let_reports_go g → Parts g.row.S.Denot g.row.K.Denot g.row.C.Denot
 parts g c = record c.args.self.now {
   proc = c.route_all.new.proc;
+  journal = record c.args.self.now.journal { known = c.route_all.new.known };
   outputs = with_items (with_items c.args.self.now.outputs c.begin_anew.new.outputs) c.send_rest.new.outputs;
 }
 
@@ -151,9 +152,11 @@ stops g c = λ start counted still w.
     let whole : RunState = record now_stopped { core = c.stop.new.self; ticked = true } in
     let d = c.in_ok-route_all.ensures.goes behind now_stopped true zero (λ t. (refl, all_made g c))
     (went_front start whole b.progress) in
-    let sent = sends behind (record now_stopped { proc = proc_of c.route_all.new.proc; still = 0 }) d in
-    let all = c.let_reports_go.ensures.tells behind (record now_stopped
-    { proc = proc_of c.route_all.new.proc; outs = outs g c.send_rest.new.outputs; still = 0 }) sent in
+    let part = with_known now_stopped.journal c.route_all.new.known.items in
+    let routed : RunState = record now_stopped { proc = proc_of c.route_all.new.proc; journal = part; still = 0 } in
+    let sent = sends behind routed d in
+    let all =
+    c.let_reports_go.ensures.tells behind (record routed { outs = outs g c.send_rest.new.outputs }) sent in
     let done : RunState = record (last g c) { counted_at = counts } in
     record {
       progress = went_back start whole done b.progress all;

@@ -1,16 +1,17 @@
 //! Changing what a metric says.
-ghost use Rattle.std.specs.Prelude.{◌≡◌, IfOk, OnOk, OnErr, true};
+ghost use Rattle.std.specs.Prelude.{◌≡◌, ◌≤◌, All, IfOk, OnOk, OnErr, drop, length, true};
 ghost use Rattle.std.specs.Arc.{arc_value};
-ghost use Rattle.std.specs.List.{position, IsDistinct};
+ghost use Rattle.std.specs.List.{position, AllByRecursion, IsDistinct};
 ghost use Rattle.std.specs.Map.{keys_of};
 ghost use Rattle.std.specs.Cmp.Lexicographic.{pointwise};
 ghost use Rattle.std.specs.Prelude.{nat_eq};
 ghost use Rattle.std.specs.Str.{bytes_eq};
 ghost use Rattle.metric.specs.Changing.{loses_field, without_field, without_key};
-ghost use Rattle.metric.specs.Pairs.{has_key, with_pair, with_sorted, IsInKeyOrder};
+ghost use Rattle.metric.specs.Metric.{IsFilledTag, IsTag};
+ghost use Rattle.metric.specs.Pairs.{has_key, with_all_missing, with_pair, with_sorted, IsInKeyOrder};
 
 use crate::builder::{field_at, put_field, put_tag};
-use crate::missing::{field_copies, tag_copies};
+use crate::missing::{add_missing, field_copies, tag_copies};
 use crate::{Content, Text, Value};
 use fixed_num::OutOfMemory;
 use std::alloc::Global;
@@ -57,6 +58,35 @@ pub(crate) fn set_tag(
     unshare(content, alloc)?;
     match Arc::get_mut(content) {
         Some(own) => put_tag(alloc, &mut own.tags, key, value),
+        None => Err(OutOfMemory),
+    }
+}
+
+/// The content with the tags of a list from an index on, each at its place by key where no tag has its key then. The list
+/// of tags is made anew, with room for just these.
+pub(crate) fn add_tags(
+    content: &mut Arc<Content>,
+    alloc: Global,
+    given: &[(Text, Text)],
+    from: usize,
+) -> Result<(), OutOfMemory>
+    requires sorted { IsInKeyOrder (arc_value content.old).tags }
+    requires each { AllByRecursion IsTag (arc_value content.old).tags }
+    requires filled { All IsFilledTag given.now }
+    requires within { from ≤ length given.now }
+    ensures added { OnOk result
+        (arc_value content.new ≡ record (arc_value content.old) {
+          tags = with_all_missing (arc_value content.old).tags (drop from given.now);
+        }) }
+    ensures sorted { OnOk result (IsInKeyOrder (arc_value content.new).tags) }
+    ensures each { OnOk result (AllByRecursion IsTag (arc_value content.new).tags) }
+{
+    unshare(content, alloc)?;
+    match Arc::get_mut(content) {
+        Some(own) => {
+            own.tags = tag_copies(alloc, own.tags.as_slice(), given.len() - from)?;
+            add_missing(alloc, &mut own.tags, given, from)
+        }
         None => Err(OutOfMemory),
     }
 }

@@ -8,7 +8,7 @@ ghost use Rattle.metric.specs.Metric.{IsFilled, IsFilledTag, IsMetric};
 ghost use Rattle.metric.specs.Changing.{loses_field, without_field, without_key};
 ghost use Rattle.metric.specs.Pairs.{has_key, value_at, with_all_missing, with_pair, with_sorted};
 
-use crate::missing::{add_missing, behind_known, field_copies, tag_copies};
+use crate::missing::behind_known;
 use crate::{Series, Text, Value, change};
 use fixed_num::{Moment, OutOfMemory, Seq};
 use std::alloc::Global;
@@ -96,7 +96,7 @@ impl Metric {
 
     /// The metric with the tags of a list that it lacks: each in order, at its place by key, where no tag has its
     /// key then. The list may be in any order. Where the metric lacks none it is given back as it is, which takes no
-    /// memory.
+    /// memory; a content that no other metric shares is changed where it is.
     pub fn with_tags(self, alloc: Global, given: &[(Text, Text)]) -> Result<Metric, OutOfMemory>
         requires { All IsFilledTag given.now }
         ensures added { IfOk result
@@ -114,7 +114,7 @@ impl Metric {
     // The same, with the tags of the list from an index on, of which it lacks one.
     #[inline(never)]
     fn with_missing(
-        self,
+        mut self,
         alloc: Global,
         given: &[(Text, Text)],
         from: usize,
@@ -124,16 +124,8 @@ impl Metric {
         ensures { IfOk result
             (λ m. m ≡ record self { tags = with_all_missing self.tags (drop from given.now) }) }
     {
-        self.shows_metric();
-        let mut tags = tag_copies(alloc, self.tags(), given.len() - from)?;
-        add_missing(alloc, &mut tags, given, from)?;
-        let content = Content {
-            name: self.name().copy()?,
-            tags,
-            fields: field_copies(alloc, self.fields())?,
-            time: self.time(),
-        };
-        Metric::of(alloc, content)
+        change::add_tags(&mut self.content, alloc, given, from)?;
+        Ok(self)
     }
 
     /// The name is another, which isn't empty. After an error the metric is as before.

@@ -86,8 +86,8 @@ pub(crate) fn offered_views(alloc: Global, offers: &[Offer]) -> Result<Vec<Metri
     Ok(views)
 }
 
-/// The views of an item, of which one stands in place.
-pub(crate) type Views = SmallVec<Option<Metric>, 1>;
+/// The views of an item: up to four of them take no memory but their own.
+pub(crate) type Views = SmallVec<Option<Metric>, 4>;
 
 /// Copies of views, in order.
 pub(crate) fn view_copies(alloc: Global, views: &[Option<Metric>]) -> Result<Views, OutOfMemory>

@@ -123,8 +123,8 @@ module _ (start : Beginning) (core mid next : CoreState) (now : RunState) (old n
       record {
         journal = between ++ end ∷ [];
         text = text-push start mid next now.journal between end refl
-            (text-push start core mid now.journal w.journal begin refl w.text begins (ap (λ (s : CoreState). s.stored) began)
-            (ap (λ (s : CoreState). s.setup) began))
+            (text-push start core mid now.journal w.journal begin refl w.text begins
+            (ap (λ (s : CoreState). s.stored) began) (ap (λ (s : CoreState). s.setup) began))
             (subst (Continues mid next) shape.1 ends) stored (ap (λ (s : CoreState). s.setup) done);
         in_count = w.in_count;
         heard = all_heard_push start.ins now.ins between end (λ k. record { none = refl; other = refl })

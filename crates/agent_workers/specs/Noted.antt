@@ -16,9 +16,9 @@ use Rattle.account.specs.Routes.{RoutesInOrder, RouteOnInOrder}
 use Rattle.agent_workers.specs.declared.journal.JournalJob.{JournalJob}
 use Rattle.journal_text.specs.SoFar.{text_so_far, noted_text, SpellsOn}
 
--- the journal's part of a run: what the journal is about, what is known of the Routes that aren't spelled yet, the items
--- that have no spelled Route, how many entries there were, whether a put failed, and the bytes and the count of failed
--- puts at the journal's place
+-- the journal's part of a run: what the journal is about, what is known of the Routes that aren't spelled yet, the
+-- items that have no spelled Route, how many entries there were, whether a put failed, and the bytes and the count of
+-- failed puts at the journal's place
 pub record JournalPart : Type 0 where
   pub setup : JournalSetup
   pub known : List Known

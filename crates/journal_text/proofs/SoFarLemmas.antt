@@ -94,7 +94,8 @@ entry_stays known item e h =
     (known_stays known item e h)
 
 -- one entry, where its item is at hand
-pub spells_entry : (known : List Known) (e : Entry) (item kept left : List Content) (text new_text : List ℕ) → HasItem item e
+pub spells_entry : (known : List Known) (e : Entry) (item kept left : List Content) (text new_text : List ℕ)
+    → HasItem item e
     → kept ++ named_by e ≡ item ++ left → new_text ≡ text ++ entry_as (known_of known e) item e
     → SpellsOn known (e ∷ []) kept left text new_text
 spells_entry known e item kept left text new_text has rest is journal kept_is order more so =
@@ -137,7 +138,8 @@ spells_no_more known entries kept text journal kept_is order more so = (
     in_order = subst (RoutesInOrder 0 0) (sym (append-nil journal)) order;
   },
   subst (λ (p : List Entry). RouteOnInOrder p entries) (sym (append-nil journal)) more,
-  subst (λ (all : List Known). AreKnown all (items (journal ++ [])) entries) (ap (λ (m : ℕ). drop m known) (sym none_routed))
+  subst (λ (all : List Known). AreKnown all (items (journal ++ [])) entries)
+      (ap (λ (m : ℕ). drop m known) (sym none_routed))
       (subst (λ (p : List Entry). AreKnown known (items p) entries) (sym (append-nil journal)) so),
 )
 
@@ -156,7 +158,8 @@ text_behind journal es more =
 
 pub spells_more : (known : List Known) (n : ℕ) (entries : List Entry) (e : Entry) (kept mid left : List Content)
     (text mid_text new_text : List ℕ) → n < length entries → e ≡ get_or entries n e
-    → SpellsFirst known n entries kept mid text mid_text → SpellsOn (drop (routes (take n entries)) known) (e ∷ []) mid left mid_text new_text
+    → SpellsFirst known n entries kept mid text mid_text
+    → SpellsOn (drop (routes (take n entries)) known) (e ∷ []) mid left mid_text new_text
     → SpellsFirst known (n + 1) entries kept left text new_text
 spells_more known n entries e kept mid left text mid_text new_text l is first one journal kept_is order more known_so =
     let so = first journal kept_is order more known_so in
@@ -187,7 +190,8 @@ spells_more known n entries e kept mid left text mid_text new_text l is first on
       },
       subst (λ (p : List Entry). RouteOnInOrder p (drop (n + 1) entries)) grown
           (order_after front e (drop (n + 1) entries) next.1),
-      subst (λ (all : List Known). AreKnown all (items (journal ++ take (n + 1) entries)) (drop (n + 1) entries)) rest_is
+      subst (λ (all : List Known). AreKnown all (items (journal ++ take (n + 1) entries)) (drop (n + 1) entries))
+          rest_is
           (subst (λ (p : List Entry). AreKnown (drop (routes_by e) rest) (items p) (drop (n + 1) entries)) grown
           (subst (λ (named : List Content). AreKnown (drop (routes_by e) rest) named (drop (n + 1) entries)) (sym
           (items-push front e)) its.1)),

@@ -50,11 +50,13 @@ known g c = subst (λ (r : Routed). IsKnownRoute c.in_ok-planned.planned.known (
 
 kept : (g : Over) (c : In_ok-route g) → IsRoutable c.args.core.now c.route.new.self
 kept g c = item_routed c.args.core.now c.take_next.new.core c.route.new.self c.in-Some.item
-    (proc_of c.args.proc.now) c.in_ok-planned.planned.routed.whole (verdict g c) c.route.new.self.bank (takes g c) (routed g c)
+    (proc_of c.args.proc.now) c.in_ok-planned.planned.routed.whole (verdict g c) c.route.new.self.bank (takes g c)
+    (routed g c)
 
 pub route-requires-clause-views : goal.route-requires-clause-views
 route-requires-clause-views g c = subst (λ (r : Routed). HasViews r.whole (r.aggs ++ r.outs))
-    (sym c.in_ok-planned.ensures.routed) (has_views (proc_of c.args.proc.now) c.in-Some.item c.in_ok-planned.planned.routed.whole)
+    (sym c.in_ok-planned.ensures.routed)
+    (has_views (proc_of c.args.proc.now) c.in-Some.item c.in_ok-planned.planned.routed.whole)
 
 pub route-requires-clause-made : goal.route-requires-clause-made
 route-requires-clause-made g c = λ made. subst (λ (r : Routed). AllByRecursion (λ (view : Option Content). view ≡ None)

@@ -12,6 +12,7 @@ import kit
 from kit import Peer, input_of, run_once, whole
 
 KINDS = ["telegraf", "small"]
+SHARED_KIND = "small"
 LINES = 1_000_000
 RUNS = kit.runs_or(7)
 # Of each of two inputs.
@@ -25,6 +26,8 @@ TAGGED = "run, two global tags"
 TWO_IN = "run, two inputs"
 THREE_OUT = "run, three outputs"
 ALL = "run, two global tags, two inputs, three outputs"
+# Lines a processor second on small lines by those of one input and one output, at least.
+SHARES = {TAGGED: 0.8, THREE_OUT: 0.75}
 
 
 def configuration(folder, name, inputs, outputs, tags=(), of_output=""):
@@ -82,6 +85,10 @@ def check_kind(bounds, work, program, kind, folder):
     bounds.say(
         f"{kind}: processor time with an output filter by that without, at most {FILTER_COST}",
         f"{used[FILTERED] / used[ONE]:.3f}", used[FILTERED] / used[ONE] <= FILTER_COST)
+    if kind != SHARED_KIND:
+        return
+    for name, share in SHARES.items():
+        bounds.at_least(f"{kind}: lines a processor second of {name}, by those of one output", share, used[ONE] / used[name])
 
 
 def check_memory(bounds, work, program, folder):

@@ -177,7 +177,7 @@ class Bounds:
         print("- %s: %s, %s" % (text, measured, "met" if met else "NOT MET"), flush=True)
 
     def at_least(self, text, bound, measured):
-        self.say("%s, at least %.1f" % (text, bound), "%.2f" % measured, measured >= bound)
+        self.say("%s, at least %g" % (text, bound), "%.2f" % measured, measured >= bound)
 
     def at_most(self, text, bound, measured, form):
         self.say("%s, at most %s" % (text, form % bound), form % measured, measured <= bound)

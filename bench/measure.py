@@ -31,8 +31,8 @@ GO = "go"
 RUST = "rust, with journal"
 
 # Our lines a processor second by those of another program, at the most lines. (The Rust program reads no escapes.)
-RATIO_BOUNDS = {RUST: {"telegraf": 1.7, "small": 1.7}, GO: {"telegraf": 3.3, "small": 3.0, "escaped": 1.3}}
-INSTRUCTIONS_BOUNDS = {"telegraf": 15_000, "small": 3_800}
+RATIO_BOUNDS = {RUST: {"telegraf": 1.9, "small": 1.8}, GO: {"telegraf": 3.5, "small": 2.8, "escaped": 1.3}}
+INSTRUCTIONS_BOUNDS = {"telegraf": 16_000, "small": 4_000}
 ALLOCATIONS_BOUNDS = {"telegraf": 6, "small": 5}
 # Processor time a line at the most lines by that at the fewest.
 GROWTH_BOUNDS = {"telegraf": 1.05, "small": 1.05, "escaped": 1.1}

@@ -23,9 +23,9 @@ use Rattle.out_lane.specs.Lane as lane
 use Rattle.pipeline_core.specs.CoreState.{CoreState, lane_at, lane_of, first_state, setup_of, sizes}
 use Rattle.pipeline_core.specs.declared.setup.CoreSetup.{CoreSetup}
 use Rattle.pipeline_core.specs.declared.setup.OutSetup.{OutSetup}
-use Rattle.pipeline_core.specs.Offers.{view_at}
+use Rattle.pipeline_core.specs.Offers.{offered_views, view_at}
 use Rattle.pipeline_core.specs.Steps.{after_begin, after_done, after_route, lane_done, lane_with, count_done}
-use Rattle.pipeline_core.specs.Steps.{counted_done, done_reports, with_reports}
+use Rattle.pipeline_core.specs.Steps.{batch_views, counted_done, done_reports, with_reports}
 use Rattle.pipeline_core.proofs.Keeping.{reported_rest}
 use Rattle.account.specs.declared.entry.Report.{Report}
 use Rattle.pipeline_core.specs.declared.output.Offer.{Offer}
@@ -75,6 +75,14 @@ lanes_done lanes o ok b =
     (lane_at (set lanes o (lane.after_begin (lane_at lanes o))) o))
     ∙ ap (λ (x : LaneState Offer). set lanes o (lane_done ok x))
     (get_or-set_same lanes o (lane.after_begin (lane_at lanes o)) (empty_lane 0 0) b)
+
+-- the views that a core lends of the batch that was begun
+pub lent_views : (core mid : CoreState) (o from to : ℕ) → o < length core.lanes → mid ≡ after_begin core o from to
+    → offered_views (lane.flying (lane_at mid.lanes o)) ≡ batch_views (lane_at core.lanes o)
+lent_views core mid o from to b began =
+    ap (λ (s : CoreState). offered_views (lane.flying (lane_at s.lanes o))) began
+    ∙ ap (λ (x : LaneState Offer). offered_views (lane.flying x))
+    (get_or-set_same core.lanes o (lane.after_begin (lane_at core.lanes o)) (empty_lane 0 0) b)
 
 module _ (core mid next : CoreState) (o from to : ℕ) (ok : Bool) (b : o < length core.lanes)
     (began : mid ≡ after_begin core o from to) (done : next ≡ after_done mid o ok) where

@@ -16,7 +16,7 @@ use Rattle.pipeline_core.specs.Offers.{lane_events}
 use Rattle.pipeline_core.proofs.JournalPush.{lane_events-push}
 use Rattle.pipeline_core.specs.Stands.{Continues}
 use Rattle.pipeline_core.specs.Shapes.{IsDoneEntry}
-use Rattle.pipeline_core.specs.Steps.{IsBatchOf, after_begin, after_done, done_entry}
+use Rattle.pipeline_core.specs.Steps.{batch_views, IsBatchOf, after_begin, after_done, done_entry}
 use Rattle.pipeline_core.proofs.ShapeLemmas.{entries-have-shape}
 use Rattle.account.specs.declared.entry.Report.{Report}
 use Rattle.pipeline_core.specs.declared.batches.Batch.{Batch}
@@ -85,7 +85,8 @@ failed_done still journal output false reports h = failed_more still journal out
 module _ (start : Beginning) (core mid next : CoreState) (now : RunState) (old new : OutPart) (batch : Batch)
     (text : List ℕ)
     (within : old.output < length core.setup.outputs) (routed : core.raw ≡ [])
-    (is : IsBatchOf (lane_at core.lanes old.output) batch) (spelled : text ≡ batch_text old.format batch.metrics)
+    (is : IsBatchOf (lane_at core.lanes old.output) batch)
+    (spelled : text ≡ batch_text old.format (batch_views (lane_at core.lanes old.output)))
     (kept_format : new.format ≡ old.format) (later : old.put_faults ≤ new.put_faults)
     (began : mid ≡ after_begin core old.output batch.from batch.to)
     (begins : Continues core mid (Begin old.output batch.from batch.to))
@@ -166,8 +167,9 @@ module _ (start : Beginning) (core mid next : CoreState) (now : RunState) (old n
       record {
         format = kept_format ∙ said.format;
         sent = sent_accepted (batch_text first.format) reports core w.journal o batch first.held old.held new.held text
-            w.text.stands within is (spelled ∙ ap (λ (f : OutFormat). batch_text f batch.metrics) said.format) said.sent
-            put;
+            w.text.stands within is
+            (spelled ∙ ap (λ (f : OutFormat). batch_text f (batch_views (lane_at core.lanes old.output))) said.format)
+            said.sent put;
         put_faults = subst (λ (bs : List Bool). RoseBy (count_by not bs) first.put_faults new.put_faults) (sym same)
             (let n : count_by not (dones o w.journal ++ true ∷ []) ≡ count_by not (dones o w.journal) = omega
             (arith, failed-more (dones o w.journal) true) in
@@ -199,7 +201,8 @@ module _ (start : Beginning) (core mid next : CoreState) (now : RunState) (old n
       record {
         format = kept_format ∙ said.format;
         sent = sent_failed (batch_text first.format) reports core w.journal o batch first.held old.held new.held text
-            fault f w.text.stands within is (spelled ∙ ap (λ (f : OutFormat). batch_text f batch.metrics) said.format)
+            fault f w.text.stands within is
+            (spelled ∙ ap (λ (f : OutFormat). batch_text f (batch_views (lane_at core.lanes old.output))) said.format)
             said.sent put;
         put_faults = subst (λ (bs : List Bool). RoseBy (count_by not bs) first.put_faults new.put_faults) (sym same)
             (let n : count_by not (dones o w.journal ++ false ∷ []) ≡ count_by not (dones o w.journal) + 1 = omega
@@ -240,7 +243,8 @@ put_again true sink out held faults = refl
 -- its batch was put, or the put failed
 pub went_put : (start : Beginning) (core mid next : CoreState) (now : RunState) (old : OutPart) (batch : Batch)
     (text : List ℕ) (failed : Bool) (sink : Carried) → old.output < length core.setup.outputs → core.raw ≡ []
-    → BeginsNext old.output core mid batch → text ≡ batch_text old.format batch.metrics →
+    → BeginsNext old.output core mid batch
+    → text ≡ batch_text old.format (batch_views (lane_at core.lanes old.output)) →
     old.output < length now.outs → out_at now.outs old.output ≡ old
     → IsPut failed (change old.held sink.bytes old.put_faults sink.faults) text
     → next ≡ after_done mid old.output (not failed) → Continues mid next (done_entry mid old.output (not failed)) →

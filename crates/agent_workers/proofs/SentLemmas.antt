@@ -13,7 +13,7 @@ use Rattle.metric.specs.declared.metric.Content.{Content}
 use Rattle.pipeline_core.specs.CoreState.{CoreState, lane_at}
 use Rattle.account.specs.declared.entry.Report.{Report}
 use Rattle.pipeline_core.specs.Stands.{Stands}
-use Rattle.pipeline_core.specs.Steps.{IsBatchOf}
+use Rattle.pipeline_core.specs.Steps.{batch_views, IsBatchOf}
 use Rattle.pipeline_core.specs.declared.batches.Batch.{Batch}
 use Rattle.pipeline_core.specs.Sent.{batches_from, IsPart, Sent}
 use Rattle.agent_workers.specs.Output.{AppendsSo}
@@ -83,7 +83,7 @@ pub sent_more : (written : List Content → List ℕ) (reports : List Report) (c
     (output : ℕ) (batch : Batch) (held mid new : Option (List ℕ)) (text : List ℕ) (result : Result (Unit {0}) PutFault)
     →
     Stands core journal → output < length core.setup.outputs → IsBatchOf (lane_at core.lanes output) batch
-    → text ≡ written batch.metrics → (result ≡ Err OutOfMemory → ⊥) →
+    → text ≡ written (batch_views (lane_at core.lanes output)) → (result ≡ Err OutOfMemory → ⊥) →
     AppendsSo held mid (Sent written journal output) → PutAppends mid new text result →
     AppendsSo held new (Sent written ((journal ++ Begin output batch.from batch.to ∷ [])
     ++ Done output (accepted result) reports ∷ []) output)
@@ -97,7 +97,7 @@ sent_more written reports core journal output batch held mid new text result h b
 pub sent_accepted : (written : List Content → List ℕ) (reports : List Report) (core : CoreState) (journal : List Entry)
     (output : ℕ) (batch : Batch) (held mid new : Option (List ℕ)) (text : List ℕ) →
     Stands core journal → output < length core.setup.outputs → IsBatchOf (lane_at core.lanes output) batch
-    → text ≡ written batch.metrics →
+    → text ≡ written (batch_views (lane_at core.lanes output)) →
     AppendsSo held mid (Sent written journal output) → Appends mid new text →
     AppendsSo held new (Sent written ((journal ++ Begin output batch.from batch.to ∷ [])
     ++ Done output true reports ∷ []) output)
@@ -109,7 +109,7 @@ sent_accepted written reports core journal output batch held mid new text h b is
 pub sent_failed : (written : List Content → List ℕ) (reports : List Report) (core : CoreState) (journal : List Entry)
     (output : ℕ) (batch : Batch) (held mid new : Option (List ℕ)) (text : List ℕ) (fault : PutFault) → fault ≡ Failed →
     Stands core journal → output < length core.setup.outputs → IsBatchOf (lane_at core.lanes output) batch
-    → text ≡ written batch.metrics →
+    → text ≡ written (batch_views (lane_at core.lanes output)) →
     AppendsSo held mid (Sent written journal output) → PutAppends mid new text (Err fault) →
     AppendsSo held new (Sent written ((journal ++ Begin output batch.from batch.to ∷ [])
     ++ Done output false reports ∷ []) output)

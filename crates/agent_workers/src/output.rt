@@ -4,6 +4,7 @@ ghost use Rattle.std.specs.Prelude.{◌≡◌, ◌≢◌, ◌<◌, ◌≤◌, �
 ghost use Rattle.std.specs.Prelude.{min, None, IfSome};
 ghost use Rattle.std.specs.Option.{IfNone};
 ghost use Rattle.pipeline_core.specs.CoreState.{lane_at};
+ghost use Rattle.pipeline_core.specs.Offers.{offered_views};
 ghost use Rattle.formats.specs.Batches.{batch_text};
 ghost use Rattle.agent_workers.specs.Output.{out_of, outs_of, after_put, anew, AreOutputs};
 ghost use Rattle.agent_workers.specs.Progress.{SendsAt, SendsOn, still_flushed, still_sent};
@@ -14,8 +15,9 @@ ghost use Rattle.agent_workers.specs.Running.{HasFlushed, HasNothing, HasSwept, 
 use agent_base::{PutFault, Sink};
 use fixed_num::OutOfMemory;
 use format_words::OutFormat;
-use formats::write_batch;
-use pipeline_core::{Batch, BeginAnswer, Core};
+use formats::{Metrics, write_batch};
+use metric::Metric;
+use pipeline_core::{Batch, BeginAnswer, Core, Offer};
 use std::alloc::Global;
 
 /// An output of a run.
@@ -108,19 +110,40 @@ pub fn put_failed<K: Sink>(sink: &mut K, text: &[u8]) -> Result<bool, OutOfMemor
     }
 }
 
-/// Puts a batch in its output's format, and says whether that failed. A batch whose text is empty, as one of texts
-/// alone is in Graphite, is accepted without a put.
+/// The views of a batch in flight, as its core lends them.
+#[derive(Clone, Copy)]
+struct InFlight<'a> {
+    offers: &'a [Offer],
+}
+
+impl<'a> Metrics<'a> for InFlight<'a> {
+    ghost use Rattle.pipeline_core.specs.Offers.{offered_views};
+
+    ghost all = { λ flight. offered_views flight.offers.now };
+
+    fn count(&self) -> usize {
+        self.offers.len()
+    }
+
+    fn at(&self, index: usize) -> &'a Metric {
+        let offers = self.offers;
+        &offers[index].view
+    }
+}
+
+/// Puts the views of a batch in its output's format, and says whether that failed. A batch whose text is empty, as one of
+/// texts alone is in Graphite, is accepted without a put.
 fn put_batch<K: Sink>(
     alloc: Global,
     sink: &mut K,
     format: OutFormat,
-    batch: &Batch,
+    offers: &[Offer],
     text: &mut Vec<u8>,
 ) -> Result<bool, OutOfMemory>
     ensures { IfOk result (λ failed. IsPut failed (carried_change (K.told sink.old) (K.told sink.new))
-        (batch_text format batch.now.metrics)) }
+        (batch_text format (offered_views offers.now))) }
 {
-    write_batch(alloc, format, batch.metrics.as_slice(), text)?;
+    write_batch(alloc, format, &InFlight { offers }, text)?;
     let failed = put_failed(sink, text)?;
     Ok(failed)
 }
@@ -163,7 +186,8 @@ fn send_next<K: Sink + Drop, C: Drop>(
     let Some(batch) = begin_next(core, job.output)? else {
         return Ok(Sending::Nothing);
     };
-    let failed = put_batch(alloc, &mut job.sink, job.format, &batch, text)?;
+    let offers = core.flight(job.output);
+    let failed = put_batch(alloc, &mut job.sink, job.format, offers, text)?;
     core.done(job.output, !failed);
     count_put(job, failed);
     Ok(if failed {

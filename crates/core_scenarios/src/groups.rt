@@ -52,6 +52,8 @@ enum Answer {
     NotTaken(TakeAnswer),
     Routed(Verdict),
     Began { from: u64, to: u64 },
+    /// So many metrics are in flight, and the oldest is of this item.
+    Lent { count: usize, oldest: Option<u64> },
     NotBegun(BeginAnswer),
     Reported(Option<Report>),
     /// So many entries.
@@ -344,6 +346,18 @@ impl GroupCalls {
         }
     }
 
+    /// What is in flight at an output.
+    fn lent(&self, output: u32) -> Result<Answer, Fail> {
+        if (output as usize) >= self.core.output_count() {
+            return refused();
+        }
+        let offers = self.core.flight(output);
+        Ok(Answer::Lent {
+            count: offers.len(),
+            oldest: offers.first().map(|offer| offer.item),
+        })
+    }
+
     /// The next report of an input.
     fn report(&mut self, input: u32) -> Result<Answer, Fail> {
         if input >= self.inputs {
@@ -399,6 +413,7 @@ impl GroupCalls {
             "see" => self.see(alloc, rest),
             "remove" => self.remove(alloc),
             "begin" => self.begin_batch(next(&mut words)),
+            "flight" => self.lent(next(&mut words)),
             "report" => self.report(next(&mut words)),
             "cut" => self.cut(),
             _ => self.go_on(word, next(&mut words), words.next() == Some("ok")),

@@ -1,4 +1,5 @@
-pub mod Reader
-pub mod Groups
 pub mod Batches
+pub mod Groups
+pub mod Lines
+pub mod Reader
 pub mod Refusals

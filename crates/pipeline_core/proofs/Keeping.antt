@@ -25,7 +25,7 @@ use Rattle.account.specs.declared.numbers.OutputNumbers.{OutputNumbers}
 use Rattle.agg_bank.specs.Bank.{lines_of, BankMemory}
 use Rattle.out_lane.specs.Lane.{LaneState, empty_lane}
 use Rattle.out_lane.specs.Lane as lane
-use Rattle.pipeline_core.specs.Offers.{view_at, offered_views}
+use Rattle.pipeline_core.specs.Offers.{view_at}
 use Rattle.pipeline_core.specs.declared.output.Offer.{Offer}
 use Rattle.pipeline_core.proofs.Offering.{lanes_with-at, outputs_with-at, length-lanes_with}
 use Rattle.pipeline_core.proofs.Offering.{length-outputs_with}
@@ -38,7 +38,8 @@ use Rattle.pipeline_core.specs.CoreState.{in_flight}
 use Rattle.pipeline_core.specs.CoreState.{held_count, lane_at}
 use Rattle.pipeline_core.specs.Steps.{with_reports, after_ended, after_take, lanes_routed, numbers_routed}
 use Rattle.pipeline_core.specs.Steps.{HasFew, lane_with, numbers_with, lane_done, count_done}
-use Rattle.pipeline_core.specs.Steps.{counted_done, late_more, consumed_more}
+use Rattle.pipeline_core.specs.Steps.{counted_done, late_more, consumed_more, IsBatchOf}
+use Rattle.pipeline_core.specs.declared.batches.Batch.{Batch}
 
 in_flight-le : (x : LaneState Offer) → in_flight x ≤ 1
 in_flight-le x = elim (is_some x.flight) as (λ b. (if b then 1 else 0) ≤ 1) [ true ↦ omega arith | false ↦ omega arith ]
@@ -631,15 +632,6 @@ flies s o at h b e =
     (sym (get_or-set_same s.lanes o at (empty_lane 0 0) (omega (arith, h.outputs.lane_count)) ∙ e)) refl
 
 -- a batch has metrics
-pub some_begun : (s : CoreState) (o : ℕ) (metrics : List Content) → IsCore s → o < length s.setup.outputs →
-    metrics ≡ offered_views (take (lane_at s.lanes o).batch (lane_at s.lanes o).waiting) →
-    0 < length (lane_at s.lanes o).waiting → 0 < length metrics
-some_begun s o metrics h b e some =
-    let x : LaneState Offer = lane_at s.lanes o in
-    omega (
-      arith,
-      ap length e,
-      length-map (take x.batch x.waiting) (λ (offer : Offer). offer.view),
-      length-take x.batch x.waiting,
-      (h.outputs.each o b).some,
-    )
+pub some_begun : (s : CoreState) (o : ℕ) (batch : Batch) → IsCore s → o < length s.setup.outputs →
+    IsBatchOf (lane_at s.lanes o) batch → 0 < length (lane_at s.lanes o).waiting → batch.from < batch.to
+some_begun s o batch h b is some = omega (arith, is.from, is.to, (h.outputs.each o b).some)

@@ -20,7 +20,7 @@ use Rattle.pipeline_core.specs.declared.output.Offer.{Offer}
 use Rattle.account.specs.declared.entry.Report.{Report}
 use Rattle.account.specs.Says.{DoneSays, done_of}
 use Rattle.pipeline_core.specs.Stands.{Stands}
-use Rattle.pipeline_core.specs.Steps.{IsBatchOf}
+use Rattle.pipeline_core.specs.Steps.{batch_views, IsBatchOf}
 use Rattle.pipeline_core.specs.declared.batches.Batch.{Batch}
 use Rattle.pipeline_core.proofs.JournalPush.{offers-push}
 use Rattle.pipeline_core.proofs.Keeping.{same_number}
@@ -196,11 +196,11 @@ clipped n xs =
       | inr g ↦ ap (λ (k : ℕ). take k xs) (let k : min n (length xs) ≡ n = omega arith in k)
     ]
 
--- a batch's metrics are the views of its range
-pub batch_views : (core : CoreState) (journal : List Entry) (output : ℕ) (batch : Batch) → Stands core journal
+-- the views of a batch are those of its range
+pub views_ranged : (core : CoreState) (journal : List Entry) (output : ℕ) (batch : Batch) → Stands core journal
     → output < length core.setup.outputs → IsBatchOf (lane_at core.lanes output) batch →
-    batch.metrics ≡ views_in (Some (batch.from, batch.to)) (offers output journal)
-batch_views core journal output batch h b is =
+    batch_views (lane_at core.lanes output) ≡ views_in (Some (batch.from, batch.to)) (offers output journal)
+views_ranged core journal output batch h b is =
     let x : LaneState Offer = lane_at core.lanes output in
     let views : List Offer = offers output journal in
     let ranges : Ranges = ranges_of (lane_events output journal) in
@@ -211,8 +211,7 @@ batch_views core journal output batch h b is =
     let rest : drop batch.from views ≡ x.waiting = ap (λ (n : ℕ). drop n views) first
     ∙ behind (oldest_waiting x.limit ranges) views x.waiting
     (state.waiting ∙ ap (λ (n : ℕ). drop (oldest_waiting n ranges) views) (sym state.limit)) in
-    is.metrics
-    ∙ ap offered_views
+    ap offered_views
     (sym (clipped x.batch x.waiting) ∙ sym (ap (λ (n : ℕ). take n x.waiting) many)
     ∙ sym (ap (λ (xs : List Offer). take (batch.to - batch.from) xs) rest))
 
@@ -252,14 +251,14 @@ batches-more reports output journal from to ok =
 pub Sent-more : (written : List Content → List ℕ) (reports : List Report) (core : CoreState) (journal : List Entry)
     (output : ℕ) (batch : Batch) (ok : Bool) (bytes part : List ℕ) → Stands core journal
     → output < length core.setup.outputs → IsBatchOf (lane_at core.lanes output) batch →
-    IsPart ok (written batch.metrics) part → Sent written journal output bytes
+    IsPart ok (written (batch_views (lane_at core.lanes output))) part → Sent written journal output bytes
     → Sent written ((journal ++ Begin output batch.from batch.to ∷ []) ++ Done output ok reports ∷ []) output
     (bytes ++ part)
 Sent-more written reports core journal output batch ok bytes part h b is p s =
     let views : List Content = views_in (Some (batch.from, batch.to)) (offers output journal) in
     let says : BatchSays = record { views = views; ok = ok } in
     let q : IsPart ok (written views) part = subst (λ (vs : List Content). IsPart ok (written vs) part)
-    (batch_views core journal output batch h b is) p in
+    (views_ranged core journal output batch h b is) p in
     subst (λ (bs : List BatchSays). AreSent written bs (bytes ++ part))
     (sym (batches-more reports output journal batch.from batch.to ok))
     (AreSent-append written (batches output journal) bytes says part s q)

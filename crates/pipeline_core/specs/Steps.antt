@@ -333,11 +333,14 @@ abbrev pub lane_done : Bool → LaneState Offer → LaneState Offer
 lane_done true x = lane.after_accept x
 lane_done false x = lane.after_fail x
 
--- the oldest waiting metrics, as many as a batch has at most, with their positions
+-- the positions of the oldest waiting metrics, as many as a batch has at most
 pub record IsBatchOf (x : LaneState Offer) (batch : Batch) : Type 0 where
   pub from : batch.from ≡ lane.waiting_from x
   pub to : batch.to ≡ lane.waiting_from x + min x.batch (length x.waiting)
-  pub metrics : batch.metrics ≡ offered_views (take x.batch x.waiting)
+
+-- the views of these metrics
+abbrev pub batch_views : LaneState Offer → List Content
+batch_views x = offered_views (take x.batch x.waiting)
 
 -- how many metrics leave an output as its batch is accepted, or fails
 abbrev pub count_done : Bool → LaneState Offer → ℕ

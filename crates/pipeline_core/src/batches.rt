@@ -3,26 +3,25 @@ ghost use Rattle.std.specs.Prelude.{◌≡◌, ◌<◌, ◌≤◌, ◌^◌, ◌�
 ghost use Rattle.account.specs.Numbers.{with_output, output_numbers, IsOutputBelow};
 ghost use Rattle.pipeline_core.specs.CoreState.{lane_at, sizes_at};
 ghost use Rattle.account.specs.declared.entry.Entry.TheVariants as entries;
+ghost use Rattle.out_lane.specs.Lane.{flying};
 ghost use Rattle.pipeline_core.specs.Stands.{Continues};
 ghost use Rattle.pipeline_core.specs.Steps.{after_begin, after_done, done_entry, IsBatchOf, counted_done};
 
 use crate::marked::Leaving;
+use crate::output::Offer;
 use crate::room::make_room;
 use crate::settling::{begin_marks, leave, settle_all, tell};
 use crate::state::Core;
 use account::{Account, Entry};
 use fixed_num::{OutOfMemory, Seq};
-use metric::Metric;
 
-/// A batch that was begun.
-#[derive(Drop)]
+/// A batch that was begun. [`Core::flight`] lends what is in it.
+#[derive(Clone, Copy, Debug, PartialEq, Eq)]
 pub struct Batch {
     /// The position of its first metric: how many came to the output before.
     pub from: u64,
     /// One past the position of its last metric.
     pub to: u64,
-    /// The metrics, oldest first.
-    pub metrics: Seq<Metric>,
 }
 
 /// Why no batch was begun.
@@ -47,7 +46,7 @@ impl Core {
         ensures empty { result ≡ Err BeginAnswer.NothingWaiting →
             (output_numbers self.old.numbers output).buffered ≡ 0 }
         ensures batch { IfOk result (IsBatchOf (lane_at self.old.lanes output)) }
-        ensures some { IfOk result (λ batch. 0 < length batch.metrics) }
+        ensures some { IfOk result (λ batch. batch.from < batch.to) }
         ensures flies { OnOk result (IsSome (lane_at self.new.lanes output).flight) }
         ensures ok { IfOk result (λ batch. self.new ≡ after_begin self.old output batch.from batch.to) }
         ensures stands { IfOk result
@@ -73,6 +72,15 @@ impl Core {
             to: batch.to,
         });
         Ok(batch)
+    }
+
+    /// What an output's batch in flight has, oldest first; nothing where no batch is. It is lent until the core is changed:
+    /// no view is copied.
+    pub fn flight(&self, output: u32) -> &[Offer]
+        requires { output < length self.now.setup.outputs }
+        ensures { result.now ≡ flying (lane_at self.now.lanes output) }
+    {
+        self.outputs[output as usize].flight()
     }
 
     /// Ends an output's batch in flight: accepted, or failed. Takes no memory.

@@ -5,8 +5,7 @@ ghost use Rattle.out_lane.specs.Lane.{empty_lane, after_push, after_begin, flyin
 ghost use Rattle.pipeline_core.specs.Steps.{IsBatchOf, lane_done, count_done};
 
 use crate::batches::{Batch, BeginAnswer};
-use crate::room::offered_views;
-use fixed_num::{OutOfMemory, Seq};
+use fixed_num::OutOfMemory;
 use metric::Metric;
 use out_lane::Lane;
 use std::alloc::Global;
@@ -105,20 +104,19 @@ impl Output {
         ensures ok { OnOk result (self.new ≡ after_begin self.old) }
         ensures err { OnErr result (self.new ≡ self.old) }
     {
-        let mut back = Vec::with_capacity(alloc, self.batch as usize)?;
+        let back = Vec::with_capacity(alloc, self.batch as usize)?;
         let Ok((from, to)) = self.lane.begin() else {
             unreachable!();
         };
-        let Ok(metrics) = offered_views(alloc, self.lane.flight()) else {
-            self.lane.fail(&mut back);
-            return Err(OutOfMemory);
-        };
         self.back = back;
-        Ok(Batch {
-            from,
-            to,
-            metrics: Seq::of(metrics),
-        })
+        Ok(Batch { from, to })
+    }
+
+    /// The offers of the batch in flight, oldest first; none where no batch is.
+    pub(crate) fn flight(&self) -> &[Offer]
+        ensures { result.now ≡ flying self.now }
+    {
+        self.lane.flight()
     }
 
     /// Ends the batch in flight, accepted or failed, and answers how many views leave by it.

@@ -1,9 +1,7 @@
 //! Room for entries and copies of metrics.
 ghost use Rattle.std.specs.Prelude.{◌≡◌, ◌+◌, ◌++◌, ◌<◌, ◌≤◌, ◌^◌, vec_len, vec_capacity};
 ghost use Rattle.std.specs.Prelude.{IfOk, OnOk, OnErr};
-ghost use Rattle.pipeline_core.specs.Offers.{offered_views};
 
-use crate::output::Offer;
 use account::Entry;
 use fixed_num::OutOfMemory;
 use metric::Metric;
@@ -73,17 +71,6 @@ pub(crate) fn line_up(
 {
     raw.append(&mut more)?;
     Ok(())
-}
-
-/// Copies of the views of offers, in order.
-pub(crate) fn offered_views(alloc: Global, offers: &[Offer]) -> Result<Vec<Metric>, OutOfMemory>
-    ensures { IfOk result (λ views. views.items ≡ offered_views offers.now) }
-{
-    let mut views = Vec::with_capacity(alloc, offers.len())?;
-    for offer in offers {
-        views.push(offer.view.copy()?)?;
-    }
-    Ok(views)
 }
 
 /// The views of an item: up to four of them take no memory but their own.

@@ -1,7 +1,6 @@
-use Rattle.std.proofs.Common.{◌≡◌, ◌<◌, ◌∙◌, ap, sym, length, slice_set, ◌+◌, min, take, subst, arith, List, [], ◌∷◌}
+use Rattle.std.proofs.Common.{◌≡◌, ◌<◌, ◌∙◌, ap, sym, length, slice_set, ◌+◌, min, subst, arith, List, [], ◌∷◌}
 use Rattle.std.proofs.Common.{◌++◌}
 use Rattle.std.proofs.lemmas.List.{length-set}
-use Rattle.pipeline_core.specs.Offers.{offered_views}
 use Rattle.pipeline_core.specs.declared.output.Offer.{Offer}
 use Rattle.out_lane.specs.Lane.{LaneState, after_begin, waiting_from}
 use Rattle.pipeline_core.specs.CoreState.{CoreState, GroupsAgree, IsCore, lane_at}
@@ -9,6 +8,7 @@ use Rattle.pipeline_core.specs.CoreView.{core_state}
 use Rattle.account.specs.declared.entry.Entry.{Entry}
 use Rattle.account.specs.declared.entry.Entry.TheVariants.{Begin}
 use Rattle.pipeline_core.specs.Steps as steps
+use Rattle.pipeline_core.specs.Steps.{IsBatchOf}
 use Rattle.pipeline_core.specs.Stands.{HasJournal}
 use Rattle.pipeline_core.proofs.JournalKept.{has_next, kept_as_before}
 use Rattle.pipeline_core.proofs.StandsLanes.{begin_stands}
@@ -67,9 +67,8 @@ invariant_of-self-in_default-begin c =
 pub returns-clause-some : goal.returns-clause-some
 returns-clause-some c =
     let at = (goal.at.returns-clause-some c).After-begin in
-    some_begun (core_state c.self.inside) c.args.output c.in-Ok-begin.batch.metrics c.self.invariant.core (known at)
-    (c.in-Ok-begin.ensures.batch.metrics
-    ∙ ap (λ (x : LaneState Offer). offered_views (take x.batch x.waiting)) (sym (place at)))
+    some_begun (core_state c.self.inside) c.args.output c.in-Ok-begin.batch c.self.invariant.core (known at)
+    (subst (λ (x : LaneState Offer). IsBatchOf x c.in-Ok-begin.batch) (sym (place at)) c.in-Ok-begin.ensures.batch)
     (omega (arith, ap (λ (x : LaneState Offer). length x.waiting) (first at), c.in_ok-ready.ensures.ok.1))
 
 pub returns-clause-ok : goal.returns-clause-ok

@@ -13,6 +13,7 @@ use crate::{InputNumbers, OutputNumbers};
 use fixed_num::OutOfMemory;
 use std::alloc::Global;
 use std::marker::Model;
+use text_buffer::TextBuffer;
 use text_parts::settle;
 
 /// The numbers of a run: what was read of each input, how many items were made, removed and
@@ -67,7 +68,7 @@ impl Account {
 
     /// Appends the account's text: a line for each input, then one for the groups of each tracked
     /// one, a line for the items, and a line for each output. `OutOfMemory` leaves `out` as it was.
-    pub fn text(&self, out: &mut Vec<u8>) -> Result<(), OutOfMemory>
+    pub fn text(&self, out: &mut TextBuffer) -> Result<(), OutOfMemory>
         ensures ok { OnOk result (out.new.items ≡ out.old.items ++ account_text self.now) }
         ensures err { OnErr result (out.new.items ≡ out.old.items) }
     {
@@ -78,7 +79,7 @@ impl Account {
 
     // Appends the account's text, or a front of it.
     #[tactic(auto, unfolding(crate::specs::AccountText::account_text))]
-    fn append_text(&self, out: &mut Vec<u8>) -> Result<(), OutOfMemory>
+    fn append_text(&self, out: &mut TextBuffer) -> Result<(), OutOfMemory>
         ensures { Adds result out.old.items out.new.items (account_text self.now) }
     {
         append_inputs(out, &self.inputs)?;

@@ -6,6 +6,7 @@ ghost use Rattle.account.specs.AccountText.{numbered};
 
 use crate::{InputNumbers, OutputNumbers};
 use fixed_num::OutOfMemory;
+use text_buffer::TextBuffer;
 use text_parts::append_numbers;
 
 // How the line of an input ends.
@@ -17,7 +18,7 @@ fn ending(has_ended: bool) -> &'static str
 
 // Appends the line of an input.
 #[tactic(auto, unfolding(crate::specs::AccountText::input_line))]
-fn append_input(out: &mut Vec<u8>, input: u64, x: &InputNumbers) -> Result<(), OutOfMemory>
+fn append_input(out: &mut TextBuffer, input: u64, x: &InputNumbers) -> Result<(), OutOfMemory>
     ensures { Adds result out.old.items out.new.items (input_line input x.now) }
 {
     append_numbers(
@@ -36,7 +37,7 @@ fn append_input(out: &mut Vec<u8>, input: u64, x: &InputNumbers) -> Result<(), O
 
 // Appends the line of an input's groups where it is tracked.
 #[tactic(auto, unfolding(crate::specs::AccountText::groups_line, crate::specs::AccountText::tracked_groups))]
-fn append_tracked(out: &mut Vec<u8>, input: u64, x: &InputNumbers) -> Result<(), OutOfMemory>
+fn append_tracked(out: &mut TextBuffer, input: u64, x: &InputNumbers) -> Result<(), OutOfMemory>
     ensures { Adds result out.old.items out.new.items (tracked_groups input x.now) }
 {
     if !x.tracked {
@@ -57,7 +58,7 @@ fn append_tracked(out: &mut Vec<u8>, input: u64, x: &InputNumbers) -> Result<(),
 // Appends the line of the items.
 #[tactic(auto, unfolding(crate::specs::AccountText::items_line))]
 pub(crate) fn append_items(
-    out: &mut Vec<u8>,
+    out: &mut TextBuffer,
     made: u64,
     removed: u64,
     routed: u64,
@@ -77,7 +78,7 @@ pub(crate) fn append_items(
 
 // Appends the line of an output.
 #[tactic(auto, unfolding(crate::specs::AccountText::output_line))]
-fn append_output(out: &mut Vec<u8>, output: u64, x: &OutputNumbers) -> Result<(), OutOfMemory>
+fn append_output(out: &mut TextBuffer, output: u64, x: &OutputNumbers) -> Result<(), OutOfMemory>
     ensures { Adds result out.old.items out.new.items (output_line output x.now) }
 {
     append_numbers(
@@ -97,7 +98,10 @@ fn append_output(out: &mut Vec<u8>, output: u64, x: &OutputNumbers) -> Result<()
 
 // Appends the lines of inputs, counted from 0.
 #[tactic(auto, using(crate::proofs::NumberedLemmas::appending), unfolding(crate::specs::AccountText::numbered))]
-pub(crate) fn append_inputs(out: &mut Vec<u8>, inputs: &[InputNumbers]) -> Result<(), OutOfMemory>
+pub(crate) fn append_inputs(
+    out: &mut TextBuffer,
+    inputs: &[InputNumbers],
+) -> Result<(), OutOfMemory>
     ensures { Adds result out.old.items out.new.items (numbered input_line 0 inputs.now) }
 {
     for (i, x) in inputs.iter().enumerate() {
@@ -108,7 +112,10 @@ pub(crate) fn append_inputs(out: &mut Vec<u8>, inputs: &[InputNumbers]) -> Resul
 
 // Appends the lines of the groups of those inputs that are tracked; all inputs are counted from 0.
 #[tactic(auto, using(crate::proofs::NumberedLemmas::appending), unfolding(crate::specs::AccountText::numbered))]
-pub(crate) fn append_groups(out: &mut Vec<u8>, inputs: &[InputNumbers]) -> Result<(), OutOfMemory>
+pub(crate) fn append_groups(
+    out: &mut TextBuffer,
+    inputs: &[InputNumbers],
+) -> Result<(), OutOfMemory>
     ensures { Adds result out.old.items out.new.items (numbered tracked_groups 0 inputs.now) }
 {
     for (i, x) in inputs.iter().enumerate() {
@@ -120,7 +127,7 @@ pub(crate) fn append_groups(out: &mut Vec<u8>, inputs: &[InputNumbers]) -> Resul
 // Appends the lines of outputs, counted from 0.
 #[tactic(auto, using(crate::proofs::NumberedLemmas::appending), unfolding(crate::specs::AccountText::numbered))]
 pub(crate) fn append_outputs(
-    out: &mut Vec<u8>,
+    out: &mut TextBuffer,
     outputs: &[OutputNumbers],
 ) -> Result<(), OutOfMemory>
     ensures { Adds result out.old.items out.new.items (numbered output_line 0 outputs.now) }

@@ -24,6 +24,7 @@ use pipeline_core::{Core, CutAnswer};
 use std::alloc::Global;
 use std::collections::VecDeque;
 use std::mem;
+use text_buffer::TextBuffer;
 
 /// How many bytes of text wait at most behind a line that is whole: those of 1 MiB are put.
 const FULL: usize = 1 << 20;
@@ -81,7 +82,7 @@ impl<K: Sink + Drop, C: Drop> JournalJob<K, C> {
         &mut self,
         alloc: Global,
         entries: Vec<Entry>,
-        text: &mut Vec<u8>,
+        text: &mut TextBuffer,
     ) -> Result<(), OutOfMemory>
         requires whole { All IsWholeOrRemoved entries.items }
         requires some { length entries.items ≢ 0 }
@@ -99,7 +100,7 @@ impl<K: Sink + Drop, C: Drop> JournalJob<K, C> {
         alloc: Global,
         entries: Vec<Entry>,
         account: &[u8],
-        text: &mut Vec<u8>,
+        text: &mut TextBuffer,
     ) -> Result<(), OutOfMemory>
         requires { All IsWholeOrRemoved entries.items }
         ensures { OnOk result (EndsOn entries.items account.now
@@ -117,7 +118,7 @@ impl<K: Sink + Drop, C: Drop> JournalJob<K, C> {
         &mut self,
         alloc: Global,
         entries: Vec<Entry>,
-        text: &mut Vec<u8>,
+        text: &mut TextBuffer,
     ) -> Result<(), OutOfMemory>
         requires { All IsWholeOrRemoved entries.items }
         ensures { OnOk result (SpellsOut entries.items
@@ -134,7 +135,7 @@ impl<K: Sink + Drop, C: Drop> JournalJob<K, C> {
         &mut self,
         alloc: Global,
         mut entries: Vec<Entry>,
-        text: &mut Vec<u8>,
+        text: &mut TextBuffer,
     ) -> Result<(), OutOfMemory>
         requires { All IsWholeOrRemoved entries.items }
         ensures { OnOk result (SpellsOut entries.items
@@ -152,7 +153,7 @@ impl<K: Sink + Drop, C: Drop> JournalJob<K, C> {
         &mut self,
         alloc: Global,
         entry: &mut Entry,
-        text: &mut Vec<u8>,
+        text: &mut TextBuffer,
     ) -> Result<(), OutOfMemory>
         requires { IsWholeOrRemoved entry.old }
         ensures { OnOk result (SpellsOut (entry.old ∷ [])
@@ -174,7 +175,7 @@ impl<K: Sink + Drop, C: Drop> JournalJob<K, C> {
         known: Known,
         entry: &Entry,
         item: &[Metric],
-        text: &mut Vec<u8>,
+        text: &mut TextBuffer,
     ) -> Result<(), OutOfMemory>
         requires item { HasItem item.now entry.now }
         requires whole { IsWholeOrRemoved entry.now }
@@ -194,7 +195,7 @@ impl<K: Sink + Drop, C: Drop> JournalJob<K, C> {
         &mut self,
         alloc: Global,
         metrics: &[Metric],
-        text: &mut Vec<u8>,
+        text: &mut TextBuffer,
     ) -> Result<(), OutOfMemory>
         ensures { OnOk result (GoesOut
             (part_of K.told self.old) (part_of K.told self.new)
@@ -209,7 +210,7 @@ impl<K: Sink + Drop, C: Drop> JournalJob<K, C> {
 
     // Puts a text that has come to 1 MiB, all of it.
     #[inline(always)]
-    fn put_full(&mut self, text: &mut Vec<u8>) -> Result<(), OutOfMemory>
+    fn put_full(&mut self, text: &mut TextBuffer) -> Result<(), OutOfMemory>
         ensures { OnOk result (GoesOut
             (part_of K.told self.old) (part_of K.told self.new)
             text.old.items [] text.new.items) }
@@ -223,13 +224,13 @@ impl<K: Sink + Drop, C: Drop> JournalJob<K, C> {
 
     // Puts a text, unless it is empty or a put failed before. It is empty then.
     #[inline(never)]
-    fn put_text(&mut self, text: &mut Vec<u8>) -> Result<(), OutOfMemory>
+    fn put_text(&mut self, text: &mut TextBuffer) -> Result<(), OutOfMemory>
         ensures goes { OnOk result (GoesOut
             (part_of K.told self.old) (part_of K.told self.new)
             text.old.items [] text.new.items) }
         ensures all { OnOk result (text.new.items ≡ []) }
     {
-        self.failed = put_part(&mut self.sink, self.failed, text)?;
+        self.failed = put_part(&mut self.sink, self.failed, text.as_slice())?;
         empty(text);
         Ok(())
     }
@@ -240,7 +241,7 @@ fn write_front(
     alloc: Global,
     setup: &JournalSetup,
     entries: u64,
-    text: &mut Vec<u8>,
+    text: &mut TextBuffer,
 ) -> Result<(), OutOfMemory>
     ensures { OnOk result (text.new.items ≡ front_text setup.now entries) }
 {
@@ -252,7 +253,7 @@ fn write_front(
 }
 
 // Empties a text. Some of its room is kept.
-fn empty(text: &mut Vec<u8>)
+fn empty(text: &mut TextBuffer)
     ensures { text.new.items ≡ [] }
 {
     text.clear();
@@ -350,7 +351,7 @@ fn keep(
 pub fn note<K: Sink + Drop, C: Drop>(
     alloc: Global,
     core: &mut Core,
-    text: &mut Vec<u8>,
+    text: &mut TextBuffer,
     journal: &mut JournalJob<K, C>,
 ) -> Result<(), OutOfMemory>
     requires rests { IsAtRest core.old }

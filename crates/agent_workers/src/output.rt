@@ -19,6 +19,7 @@ use formats::{Metrics, write_batch};
 use metric::Metric;
 use pipeline_core::{Batch, BeginAnswer, Core, Offer};
 use std::alloc::Global;
+use text_buffer::TextBuffer;
 
 /// An output of a run.
 #[derive(Drop)]
@@ -138,13 +139,13 @@ fn put_batch<K: Sink>(
     sink: &mut K,
     format: OutFormat,
     offers: &[Offer],
-    text: &mut Vec<u8>,
+    text: &mut TextBuffer,
 ) -> Result<bool, OutOfMemory>
     ensures { IfOk result (λ failed. IsPut failed (carried_change (K.told sink.old) (K.told sink.new))
         (batch_text format (offered_views offers.now))) }
 {
     write_batch(alloc, format, &InFlight { offers }, text)?;
-    let failed = put_failed(sink, text)?;
+    let failed = put_failed(sink, text.as_slice())?;
     Ok(failed)
 }
 
@@ -165,7 +166,7 @@ fn count_put<K: Sink + Drop, C: Drop>(job: &mut OutJob<K, C>, failed: bool)
 fn send_next<K: Sink + Drop, C: Drop>(
     alloc: Global,
     core: &mut Core,
-    text: &mut Vec<u8>,
+    text: &mut TextBuffer,
     job: &mut OutJob<K, C>,
 ) -> Result<Sending, OutOfMemory>
     requires rests { IsAtRest core.old }
@@ -201,7 +202,7 @@ fn send_next<K: Sink + Drop, C: Drop>(
 pub fn send_all<K: Sink + Drop, C: Drop>(
     alloc: Global,
     core: &mut Core,
-    text: &mut Vec<u8>,
+    text: &mut TextBuffer,
     job: &mut OutJob<K, C>,
 ) -> Result<Flush, OutOfMemory>
     requires rests { IsAtRest core.old }
@@ -241,7 +242,7 @@ pub fn send_all<K: Sink + Drop, C: Drop>(
 pub fn send_each<K: Sink + Drop, C: Drop>(
     alloc: Global,
     core: &mut Core,
-    text: &mut Vec<u8>,
+    text: &mut TextBuffer,
     outputs: &mut [OutJob<K, C>],
 ) -> Result<Flush, OutOfMemory>
     requires rests { IsAtRest core.old }
@@ -285,7 +286,7 @@ pub fn tries_after(tries: u32, came_on: bool, final_tries: u32) -> u32
 pub fn send_rest<K: Sink + Drop, C: Drop>(
     alloc: Global,
     core: &mut Core,
-    text: &mut Vec<u8>,
+    text: &mut TextBuffer,
     outputs: &mut [OutJob<K, C>],
     final_tries: u32,
 ) -> Result<(), OutOfMemory>

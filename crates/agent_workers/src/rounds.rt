@@ -29,6 +29,7 @@ use fixed_num::{Moment, OutOfMemory};
 use formats::InState;
 use pipeline_core::Core;
 use std::alloc::Global;
+use text_buffer::TextBuffer;
 
 /// How a run came to its end.
 #[derive(Drop)]
@@ -82,7 +83,7 @@ impl<'a, S: Source + Drop, K: Sink + Drop, C: Clock + Drop> Parts<'a, S, K, C> {
         &mut self,
         alloc: Global,
         core: &mut Core,
-        text: &mut Vec<u8>,
+        text: &mut TextBuffer,
     ) -> Result<Round, OutOfMemory>
         requires running { IsRunning core.old }
         requires fit { AreFit (state_of S.told K.told C.told core.old self.old) }
@@ -120,7 +121,7 @@ impl<'a, S: Source + Drop, K: Sink + Drop, C: Clock + Drop> Parts<'a, S, K, C> {
         &mut self,
         alloc: Global,
         core: &mut Core,
-        text: &mut Vec<u8>,
+        text: &mut TextBuffer,
     ) -> Result<u32, OutOfMemory>
         requires running { IsRunning core.old }
         requires fit { AreFit (state_of S.told K.told C.told core.old self.old) }
@@ -156,7 +157,7 @@ impl<'a, S: Source + Drop, K: Sink + Drop, C: Clock + Drop> Parts<'a, S, K, C> {
         &mut self,
         alloc: Global,
         core: &mut Core,
-        text: &mut Vec<u8>,
+        text: &mut TextBuffer,
         moment: Moment,
     ) -> Result<(), OutOfMemory>
         requires running { IsRunning core.old }
@@ -203,7 +204,7 @@ pub fn finish<S: Source + Drop, K: Sink + Drop, C: Clock + Drop>(
         → FinishesSo job ending (state_of S.told K.told C.told core.old parts.old)
         (state_of S.told K.told C.told core.new parts.new)) }
 {
-    let mut text = Vec::new(alloc);
+    let mut text = TextBuffer::new(alloc);
     let _idle = parts.rounds(alloc, core, &mut text)?;
     let moment = parts.timer.now();
     parts.stop(alloc, core, &mut text, moment)?;
@@ -224,7 +225,7 @@ pub fn finish<S: Source + Drop, K: Sink + Drop, C: Clock + Drop>(
 fn route_noted<K: Sink + Drop, C: Drop>(
     alloc: Global,
     core: &mut Core,
-    text: &mut Vec<u8>,
+    text: &mut TextBuffer,
     proc: &mut ProcJob<'_, C>,
     journal: &mut JournalJob<K, C>,
 ) -> Result<(), OutOfMemory>
@@ -251,7 +252,7 @@ fn route_noted<K: Sink + Drop, C: Drop>(
 fn route_where_raw<K: Sink + Drop, C: Drop>(
     alloc: Global,
     core: &mut Core,
-    text: &mut Vec<u8>,
+    text: &mut TextBuffer,
     proc: &mut ProcJob<'_, C>,
     journal: &mut JournalJob<K, C>,
 ) -> Result<bool, OutOfMemory>
@@ -278,7 +279,7 @@ fn route_where_raw<K: Sink + Drop, C: Drop>(
 fn tick_noted<K: Sink + Drop, C: Clock + Drop>(
     alloc: Global,
     core: &mut Core,
-    text: &mut Vec<u8>,
+    text: &mut TextBuffer,
     timer: &mut C,
     proc: &mut ProcJob<'_, C>,
     journal: &mut JournalJob<K, C>,
@@ -375,7 +376,7 @@ fn is_left(core: &Core, outputs: u32) -> bool
 fn end_journal<K: Sink + Drop, C: Drop>(
     alloc: Global,
     core: &mut Core,
-    text: &mut Vec<u8>,
+    text: &mut TextBuffer,
     outputs: u32,
     journal: &mut JournalJob<K, C>,
 ) -> Result<(Vec<u8>, bool), OutOfMemory>
@@ -388,10 +389,10 @@ fn end_journal<K: Sink + Drop, C: Drop>(
         (EndsOn core.old.stored (account_text core.old.numbers) (part_of K.told journal.old)
         (part_of K.told journal.new)) }
 {
-    let mut account = Vec::new(alloc);
+    let mut account = TextBuffer::new(alloc);
     core.account().text(&mut account)?;
     let left = is_left(core, outputs);
     let entries = last_entries(alloc, core)?;
-    journal.end(alloc, entries, &account, text)?;
-    Ok((account, left))
+    journal.end(alloc, entries, account.as_slice(), text)?;
+    Ok((account.into_vec(), left))
 }

@@ -8,6 +8,7 @@ use metric::Metric;
 use scenario_tables::Row;
 use std::alloc::Global;
 use std::test::Fail;
+use text_buffer::TextBuffer;
 
 /// An aggregator.
 #[derive(Drop)]
@@ -73,12 +74,12 @@ impl Aggregator {
 
 /// The lines of metrics, with none behind the last.
 pub(crate) fn lines_of(alloc: Global, metrics: &[Metric]) -> Result<String, Fail> {
-    let mut lines = Vec::new(alloc);
+    let mut lines = TextBuffer::new(alloc);
     for metric in metrics {
         write_line(alloc, metric, &mut lines)?;
     }
-    let _ = lines.pop();
-    Ok(String::from_utf8(lines)?)
+    lines.truncate(lines.len().saturating_sub(1));
+    Ok(String::from_utf8(lines.into_vec())?)
 }
 
 /// What the words of a row ask for: `minmax`, or those of basicstats.

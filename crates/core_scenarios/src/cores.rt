@@ -12,6 +12,7 @@ use std::alloc::Global;
 use std::fmt;
 use std::str::SplitWhitespace;
 use std::test::Fail;
+use text_buffer::TextBuffer;
 
 /// The metric of all items, in line protocol.
 const METRIC: &str = "cpu load=1i 0";
@@ -184,9 +185,9 @@ impl Calls for CoreCalls {
             "remove" => self.route(alloc, None, vec![in alloc; None, None]?)?,
             "raw" => return shown(alloc, self.core.has_raw()),
             "account" => {
-                let mut text = Vec::new(alloc);
+                let mut text = TextBuffer::new(alloc);
                 self.core.account().text(&mut text)?;
-                return Ok(String::from_utf8(text)?);
+                return Ok(String::from_utf8(text.into_vec())?);
             }
             word => self.go_on(word, next(&mut words), words.next() == Some("ok"))?,
         }

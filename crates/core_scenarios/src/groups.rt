@@ -21,6 +21,7 @@ use pipeline_core::{
 use scenario_tables::Row;
 use std::alloc::Global;
 use std::test::Fail;
+use text_buffer::TextBuffer;
 
 /// The moment of each gather.
 const MOMENT: i64 = 7;
@@ -123,9 +124,9 @@ fn head_of(
         aggs: Seq::of(Vec::from_slice(alloc, aggs)?),
         outputs: Seq::of(all_sizes),
     };
-    let mut text = Vec::new(alloc);
+    let mut text = TextBuffer::new(alloc);
     write_setup(alloc, &setup, &mut text)?;
-    Ok(text)
+    Ok(text.into_vec())
 }
 
 /// The lines of a text, with no newline behind the last.
@@ -162,7 +163,7 @@ fn write_route(
     alloc: Global,
     item: &[Metric],
     entry: &Entry,
-    out: &mut Vec<u8>,
+    out: &mut TextBuffer,
 ) -> Result<(), Fail> {
     if item.len() != 1 {
         return Err(Fail::new("no item"));
@@ -421,7 +422,7 @@ impl GroupCalls {
     }
 
     /// Appends the text of an entry, a Route's beside its item.
-    fn write(&self, alloc: Global, entry: &Entry, out: &mut Vec<u8>) -> Result<(), Fail> {
+    fn write(&self, alloc: Global, entry: &Entry, out: &mut TextBuffer) -> Result<(), Fail> {
         match entry {
             Entry::Route { item, .. } => {
                 let item = one_at(self.taken.as_slice(), *item);
@@ -442,7 +443,7 @@ impl GroupCalls {
             said.push_str(format!(in alloc; " {count}")?.as_str())?;
         }
         if let Answer::Cut(_) = answer {
-            let mut text = Vec::new(alloc);
+            let mut text = TextBuffer::new(alloc);
             for entry in &self.entries {
                 self.write(alloc, entry, &mut text)?;
             }
@@ -485,7 +486,7 @@ impl Calls for GroupCalls {
             return lines_in(alloc, self.head.as_slice());
         }
         if call == "account" {
-            let mut text = Vec::new(alloc);
+            let mut text = TextBuffer::new(alloc);
             self.core.account().text(&mut text)?;
             return lines_in(alloc, text.as_slice());
         }

@@ -11,11 +11,12 @@ use scenario_tables::Row;
 use std::alloc::Global;
 use std::str::SplitWhitespace;
 use std::test::Fail;
+use text_buffer::TextBuffer;
 
 /// The text that was written so far.
 #[derive(Drop)]
 pub struct JournalCalls {
-    text: Vec<u8>,
+    text: TextBuffer,
 }
 
 /// What the lines below a call list.
@@ -110,7 +111,7 @@ fn write_route(
     alloc: Global,
     words: &mut SplitWhitespace<'_>,
     lists: Lists,
-    out: &mut Vec<u8>,
+    out: &mut TextBuffer,
 ) -> Result<(), Fail> {
     let item = next(words);
     match words.next().unwrap_or("") {
@@ -127,7 +128,7 @@ fn write_routed(
     item: u64,
     verdict: Verdict,
     mut lists: Lists,
-    out: &mut Vec<u8>,
+    out: &mut TextBuffer,
 ) -> Result<(), Fail>
     requires { verdict ≡ Verdict.Removed → ⊥ }
 {
@@ -150,7 +151,7 @@ fn write_routed(
 }
 
 /// The Route of an item that is removed, where one aggregator and one output are.
-fn write_removed(alloc: Global, item: u64, lists: Lists, out: &mut Vec<u8>) -> Result<(), Fail> {
+fn write_removed(alloc: Global, item: u64, lists: Lists, out: &mut TextBuffer) -> Result<(), Fail> {
     if lists.metrics.len() != 1 {
         return Err(Fail::new("no item"));
     }
@@ -209,7 +210,7 @@ fn entry(word: &str, words: &mut SplitWhitespace<'_>, lists: Lists) -> Entry
 impl Calls for JournalCalls {
     fn begin(alloc: Global, _row: &Row<'_>, _word: &str) -> Result<JournalCalls, Fail> {
         Ok(JournalCalls {
-            text: Vec::new(alloc),
+            text: TextBuffer::new(alloc),
         })
     }
 
@@ -236,7 +237,7 @@ impl Calls for JournalCalls {
                 write_entry(alloc, &[], &entry, &mut self.text)?;
             }
         }
-        let text = self.text.get(from..).unwrap_or(b"");
+        let text = self.text.as_slice().get(from..).unwrap_or(b"");
         Ok(String::from_str(alloc, str::from_utf8(text)?)?)
     }
 }

@@ -4,6 +4,7 @@ use journal_reader::{JournalKind, read_journal, write_journal};
 use scenario_tables::Row;
 use std::alloc::Global;
 use std::test::Fail;
+use text_buffer::TextBuffer;
 
 /// The text of a row.
 #[derive(Drop)]
@@ -20,7 +21,7 @@ fn reading(alloc: Global, text: &[u8]) -> Result<String, Fail> {
         }
         Err(e) => return Ok(format!(in alloc; "{:?} {}", e.kind, e.place)?),
     };
-    let mut again = Vec::new(alloc);
+    let mut again = TextBuffer::new(alloc);
     write_journal(alloc, &j, &mut again)?;
     if again.as_slice() != text {
         return Err(Fail::new("written otherwise"));

@@ -9,6 +9,7 @@ use scenario_tables::Row;
 use std::alloc::Global;
 use std::str::SplitWhitespace;
 use std::test::Fail;
+use text_buffer::TextBuffer;
 
 /// Nothing is left of a call.
 #[derive(Drop)]
@@ -95,9 +96,9 @@ fn counted(alloc: Global) -> Result<String, Fail> {
     account.buffered(1);
     account.written(1, 1);
     account.dropped(1, 1);
-    let mut out = Vec::from_slice(alloc, b"> ")?;
+    let mut out = TextBuffer::of(Vec::from_slice(alloc, b"> ")?);
     account.text(&mut out)?;
-    Ok(String::from_utf8(out)?)
+    Ok(String::from_utf8(out.into_vec())?)
 }
 
 impl Calls for SingleCalls {
@@ -119,9 +120,9 @@ impl Calls for SingleCalls {
             "counted" => counted(alloc),
             first => {
                 let tracked = [first == "tracked", words.next() == Some("tracked")];
-                let mut out = Vec::new(alloc);
+                let mut out = TextBuffer::new(alloc);
                 Account::new(alloc, &tracked, 0)?.text(&mut out)?;
-                Ok(String::from_utf8(out)?)
+                Ok(String::from_utf8(out.into_vec())?)
             }
         }
     }

@@ -1,5 +1,5 @@
 //! Numbers with nine decimals.
-ghost use Rattle.std.specs.Prelude.{◌≡◌, ◌<◌, ◌+◌, ◌++◌, length, vec_len, vec_capacity, OnOk, OnErr, SomeIff};
+ghost use Rattle.std.specs.Prelude.{◌≡◌, ◌<◌, ◌++◌, length, OnOk, OnErr, SomeIff};
 ghost use Rattle.std.specs.Prelude.{pos, ◌+ℤ◌};
 ghost use Rattle.fixed_num.specs.Quotient.{is_negative, divided};
 ghost use Rattle.fixed_num.specs.Range.{InRange};
@@ -12,6 +12,7 @@ use crate::text::{LONGEST, split, write_number};
 use crate::value::magnitude;
 use std::alloc::Global;
 use std::marker::Model;
+use text_buffer::TextBuffer;
 
 /// Why a text is no number of a type.
 #[derive(Clone, Copy, Debug, PartialEq, Eq)]
@@ -138,12 +139,12 @@ impl Fixed {
 
     /// Appends the canonical text: `-` where the number is negative, the whole digits without leading zeros
     /// (`0` where there are none) and, where the fraction is not zero, `.` and its digits without the zeros
-    /// at their end. `OutOfMemory`, which comes only where `out` has no room for the text, leaves it as it
-    /// was.
-    pub fn append(self, _alloc: Global, out: &mut Vec<u8>) -> Result<(), OutOfMemory>
+    /// at their end. `OutOfMemory`, which comes only where fewer bytes stand ready in `out` than the text has, leaves it
+    /// as it was.
+    pub fn append(self, _alloc: Global, out: &mut TextBuffer) -> Result<(), OutOfMemory>
         ensures added { OnOk result (out.new.items ≡ out.old.items ++ canonical_text self) }
         ensures kept { OnErr result (out.new.items ≡ out.old.items) }
-        ensures full { OnErr result (vec_capacity out.old < vec_len out.old + length (canonical_text self)) }
+        ensures full { OnErr result (out.old.ready < length (canonical_text self)) }
     {
         let (whole, billionths) = split(self.billionths.unsigned_abs());
         let mut buffer = [0; LONGEST];

@@ -4,6 +4,7 @@ use fixed_num::OutOfMemory;
 use journal_reader::{Journal, JournalFault, JournalKind, read_journal, write_journal};
 use journal_text::named_by;
 use std::alloc::Global;
+use text_buffer::TextBuffer;
 
 /// What is written of a journal.
 #[derive(Clone, Copy, Debug, PartialEq, Eq)]
@@ -104,9 +105,9 @@ pub(crate) fn answer(alloc: Global, told: Told, text: &[u8]) -> Result<Vec<u8>, 
         Told::Count => counts(alloc, &j),
         Told::Reports => reports(alloc, &j),
         Told::Journal => {
-            let mut out = Vec::new(alloc);
+            let mut out = TextBuffer::new(alloc);
             write_journal(alloc, &j, &mut out)?;
-            Ok(out)
+            Ok(out.into_vec())
         }
     }
 }

@@ -29,6 +29,7 @@ use std::alloc::{AllocError, AllocFailed, Global};
 use std::io::{Error, ErrorKind, Read, Stdin, Stdout};
 use std::process::ExitCode;
 use std::{env, fmt};
+use text_buffer::TextBuffer;
 
 /// The moment at which each piece is read.
 const MOMENT: Moment = 7;
@@ -72,7 +73,7 @@ struct Probe {
     passed: u64,
     metrics: u64,
     batch: Vec<Metric>,
-    out: Vec<u8>,
+    out: TextBuffer,
 }
 
 /// Why the probe stops.
@@ -354,7 +355,7 @@ fn probe_of(
         passed: 0,
         metrics: 0,
         batch: Vec::new(alloc),
-        out: Vec::new(alloc),
+        out: TextBuffer::new(alloc),
     })
 }
 

@@ -12,6 +12,7 @@ use graphite_text::write_metric;
 use line_proto::write_line;
 use metric::Metric;
 use std::alloc::Global;
+use text_buffer::TextBuffer;
 
 /// The formats in which each metric has lines of its own.
 #[derive(Clone, Copy, Debug)]
@@ -28,7 +29,7 @@ fn append_lines(
     alloc: Global,
     format: LineFormat,
     metric: &Metric,
-    out: &mut Vec<u8>,
+    out: &mut TextBuffer,
 ) -> Result<(), OutOfMemory>
     ensures ok { OnOk result (out.new.items ≡ out.old.items ++ lines_in format metric.now) }
 {
@@ -43,7 +44,7 @@ fn write_lines<'a, M: Metrics<'a>>(
     alloc: Global,
     format: LineFormat,
     metrics: &M,
-    out: &mut Vec<u8>,
+    out: &mut TextBuffer,
 ) -> Result<(), OutOfMemory>
     ensures ok { OnOk result (out.new.items ≡ flat_map (lines_in format) (M.all metrics.now)) }
 {
@@ -70,7 +71,7 @@ fn copies_of<'a, M: Metrics<'a>>(alloc: Global, metrics: &M) -> Result<Vec<Metri
 fn write_exposition<'a, M: Metrics<'a>>(
     alloc: Global,
     metrics: &M,
-    out: &mut Vec<u8>,
+    out: &mut TextBuffer,
 ) -> Result<(), OutOfMemory>
     ensures ok { OnOk result (out.new.items ≡ exposition.batch_text (M.all metrics.now)) }
 {
@@ -84,7 +85,7 @@ pub fn write_batch<'a, M: Metrics<'a>>(
     alloc: Global,
     format: OutFormat,
     metrics: &M,
-    out: &mut Vec<u8>,
+    out: &mut TextBuffer,
 ) -> Result<(), OutOfMemory>
     ensures ok { OnOk result (out.new.items ≡ batch_text format (M.all metrics.now)) }
 {

@@ -1,6 +1,6 @@
 //! Metrics as lines.
 ghost use Rattle.std.specs.Prelude.{◌≡◌, ◌++◌, ◌||◌, ◌==◌, [], ◌∷◌, ℤ, not, map, flat_map, codes, OnOk};
-ghost use Rattle.std.specs.Prelude.{OnErr};
+ghost use Rattle.std.specs.Prelude.{OnErr, ◌≤◌, drop, length, take};
 ghost use Rattle.std.specs.Prelude.{if◌then◌else◌};
 ghost use Rattle.text_parts.specs.Adds.{Adds};
 ghost use Rattle.metric.specs.Draft.{Tag, Field};
@@ -13,7 +13,8 @@ ghost use Rattle.graphite_text.specs.Pieces.{key_text, host_text, other_text};
 use fixed_num::{Moment, OutOfMemory};
 use metric::{Metric, Text, Value};
 use std::alloc::Global;
-use text_parts::{append_signed, append_words, settle, translate};
+use text_buffer::TextBuffer;
+use text_parts::{append_signed, append_words, settle};
 
 /// Each byte as it stands in the value of a tag: a letter, a digit, `_` or `-`, or `_` for another.
 static VALUE_BYTES: [u8; 256] = *b"\
@@ -37,37 +38,39 @@ static NAME_BYTES: [u8; 256] = *b"\
     ________________________________\
     ________________________________";
 
-/// Puts each byte as it stands in the value of a tag.
-fn clean_value(bytes: &mut [u8])
-    ensures { bytes.new ≡ value_part bytes.old }
+/// Puts each byte from an index on as it stands in the value of a tag.
+fn clean_value(out: &mut TextBuffer, start: usize)
+    requires { start ≤ length out.old.items }
+    ensures { out.new.items ≡ take start out.old.items ++ value_part (drop start out.old.items) }
 {
-    translate(&VALUE_BYTES, bytes);
+    out.translate(start, &VALUE_BYTES);
 }
 
-/// Puts each byte as it stands in a name or a key.
-fn clean_name(bytes: &mut [u8])
-    ensures { bytes.new ≡ name_part bytes.old }
+/// Puts each byte from an index on as it stands in a name or a key.
+fn clean_name(out: &mut TextBuffer, start: usize)
+    requires { start ≤ length out.old.items }
+    ensures { out.new.items ≡ take start out.old.items ++ name_part (drop start out.old.items) }
 {
-    translate(&NAME_BYTES, bytes);
+    out.translate(start, &NAME_BYTES);
 }
 
 /// Appends the value of a tag.
-fn append_value(out: &mut Vec<u8>, text: &str) -> Result<(), OutOfMemory>
+fn append_value(out: &mut TextBuffer, text: &str) -> Result<(), OutOfMemory>
     ensures { Adds result out.old.items out.new.items (value_part text.now) }
 {
     let start = out.len();
     out.extend_from_slice(text.as_bytes())?;
-    clean_value(&mut out[start..]);
+    clean_value(out, start);
     Ok(())
 }
 
 /// Appends a name or a key.
-fn append_name(out: &mut Vec<u8>, text: &str) -> Result<(), OutOfMemory>
+fn append_name(out: &mut TextBuffer, text: &str) -> Result<(), OutOfMemory>
     ensures { Adds result out.old.items out.new.items (name_part text.now) }
 {
     let start = out.len();
     out.extend_from_slice(text.as_bytes())?;
-    clean_name(&mut out[start..]);
+    clean_name(out, start);
     Ok(())
 }
 
@@ -79,7 +82,7 @@ fn is_host(tag: &(Text, Text)) -> bool
 }
 
 /// Appends the value of a tag and a dot, where it is that of the host.
-fn append_host(out: &mut Vec<u8>, tag: &(Text, Text)) -> Result<(), OutOfMemory>
+fn append_host(out: &mut TextBuffer, tag: &(Text, Text)) -> Result<(), OutOfMemory>
     ensures { Adds result out.old.items out.new.items (host_text tag.now) }
 {
     if !is_host(tag) {
@@ -91,7 +94,7 @@ fn append_host(out: &mut Vec<u8>, tag: &(Text, Text)) -> Result<(), OutOfMemory>
 }
 
 /// Appends the value of a tag and a dot, where it is not that of the host.
-fn append_other(out: &mut Vec<u8>, tag: &(Text, Text)) -> Result<(), OutOfMemory>
+fn append_other(out: &mut TextBuffer, tag: &(Text, Text)) -> Result<(), OutOfMemory>
     ensures { Adds result out.old.items out.new.items (other_text tag.now) }
 {
     if is_host(tag) {
@@ -103,7 +106,7 @@ fn append_other(out: &mut Vec<u8>, tag: &(Text, Text)) -> Result<(), OutOfMemory
 }
 
 /// Appends the values of tags, each with a dot, that of the host first.
-fn append_hosts(out: &mut Vec<u8>, tags: &[(Text, Text)]) -> Result<(), OutOfMemory>
+fn append_hosts(out: &mut TextBuffer, tags: &[(Text, Text)]) -> Result<(), OutOfMemory>
     ensures { Adds result out.old.items out.new.items (flat_map host_text tags.now) }
 {
     for tag in tags {
@@ -113,7 +116,7 @@ fn append_hosts(out: &mut Vec<u8>, tags: &[(Text, Text)]) -> Result<(), OutOfMem
 }
 
 /// Appends the values of the tags other than that of the host, each with a dot.
-fn append_others(out: &mut Vec<u8>, tags: &[(Text, Text)]) -> Result<(), OutOfMemory>
+fn append_others(out: &mut TextBuffer, tags: &[(Text, Text)]) -> Result<(), OutOfMemory>
     ensures { Adds result out.old.items out.new.items (flat_map other_text tags.now) }
 {
     for tag in tags {
@@ -123,7 +126,7 @@ fn append_others(out: &mut Vec<u8>, tags: &[(Text, Text)]) -> Result<(), OutOfMe
 }
 
 /// Appends a dot and a field's key, unless it is `value`.
-fn append_key(out: &mut Vec<u8>, key: &str) -> Result<(), OutOfMemory>
+fn append_key(out: &mut TextBuffer, key: &str) -> Result<(), OutOfMemory>
     ensures { Adds result out.old.items out.new.items (key_text key.now) }
 {
     if key == "value" {
@@ -135,7 +138,7 @@ fn append_key(out: &mut Vec<u8>, key: &str) -> Result<(), OutOfMemory>
 }
 
 /// Appends the parts of a path.
-fn append_parts(out: &mut Vec<u8>, metric: &Metric, key: &str) -> Result<(), OutOfMemory>
+fn append_parts(out: &mut TextBuffer, metric: &Metric, key: &str) -> Result<(), OutOfMemory>
     ensures { Adds result out.old.items out.new.items
         (flat_map host_text metric.now.tags ++ flat_map other_text metric.now.tags
         ++ name_part metric.now.name ++ key_text key.now) }
@@ -148,7 +151,7 @@ fn append_parts(out: &mut Vec<u8>, metric: &Metric, key: &str) -> Result<(), Out
 }
 
 /// Appends a path.
-fn append_path(out: &mut Vec<u8>, metric: &Metric, key: &str) -> Result<(), OutOfMemory>
+fn append_path(out: &mut TextBuffer, metric: &Metric, key: &str) -> Result<(), OutOfMemory>
     ensures { Adds result out.old.items out.new.items (path_text metric.now key.now) }
 {
     append_parts(out, metric, key)?;
@@ -165,7 +168,7 @@ fn seconds_of(time: Moment) -> i64
 /// Appends a path and a number.
 fn append_numbered(
     alloc: Global,
-    out: &mut Vec<u8>,
+    out: &mut TextBuffer,
     metric: &Metric,
     field: &(Text, Value),
 ) -> Result<(), OutOfMemory>
@@ -182,7 +185,7 @@ fn append_numbered(
 #[tactic(auto, unfolding(crate::specs::Writing::line_text))]
 fn append_line(
     alloc: Global,
-    out: &mut Vec<u8>,
+    out: &mut TextBuffer,
     metric: &Metric,
     field: &(Text, Value),
 ) -> Result<(), OutOfMemory>
@@ -196,7 +199,7 @@ fn append_line(
 /// Appends the line of a field, which a text has not.
 fn append_field(
     alloc: Global,
-    out: &mut Vec<u8>,
+    out: &mut TextBuffer,
     metric: &Metric,
     field: &(Text, Value),
 ) -> Result<(), OutOfMemory>
@@ -213,7 +216,7 @@ fn append_field(
 /// Appends the lines of fields.
 fn append_fields(
     alloc: Global,
-    out: &mut Vec<u8>,
+    out: &mut TextBuffer,
     metric: &Metric,
     fields: &[(Text, Value)],
 ) -> Result<(), OutOfMemory>
@@ -230,7 +233,7 @@ const LIKELY: usize = 256;
 
 /// Appends the lines of a metric.
 #[tactic(auto, unfolding(crate::specs::Writing::metric_text))]
-fn append_metric(alloc: Global, out: &mut Vec<u8>, metric: &Metric) -> Result<(), OutOfMemory>
+fn append_metric(alloc: Global, out: &mut TextBuffer, metric: &Metric) -> Result<(), OutOfMemory>
     ensures { Adds result out.old.items out.new.items (metric_text metric.now) }
 {
     out.reserve(LIKELY)?;
@@ -244,7 +247,7 @@ fn append_metric(alloc: Global, out: &mut Vec<u8>, metric: &Metric) -> Result<()
 /// it is `value`. Each byte of them other than a letter, a digit, `_` or `-` is written as `_`, but a `.` of
 /// the measurement and of the key stays. A truth value is 1 or 0. The seconds are those since 1970, rounded
 /// down. After OutOfMemory `out` is as before.
-pub fn write_metric(alloc: Global, metric: &Metric, out: &mut Vec<u8>) -> Result<(), OutOfMemory>
+pub fn write_metric(alloc: Global, metric: &Metric, out: &mut TextBuffer) -> Result<(), OutOfMemory>
     ensures ok { OnOk result (out.new.items ≡ out.old.items ++ metric_text metric.now) }
     ensures err { OnErr result (out.new.items ≡ out.old.items) }
 {

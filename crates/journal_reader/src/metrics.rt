@@ -14,6 +14,7 @@ use fixed_num::{Fixed, OutOfMemory, Seq, read_int, read_uint};
 use journal_text::write_metric;
 use metric::{Content, Metric, Text, Value};
 use std::alloc::Global;
+use text_buffer::TextBuffer;
 
 /// The digit that a byte is.
 #[tactic(auto, unfolding(crate::specs::MetricReading::digit_of))]
@@ -222,7 +223,7 @@ fn content_of(alloc: Global, word: &[u8]) -> Result<Option<Content>, OutOfMemory
 fn is_spelled(alloc: Global, m: &Metric, word: &[u8]) -> Result<bool, OutOfMemory>
     ensures { IfOk result (λ is. is ≡ bytes_eq (metric_text m.now) word.now) }
 {
-    let mut line = Vec::with_capacity(alloc, word.len() + 3)?;
+    let mut line = TextBuffer::with_room(alloc, word.len() + 3)?;
     write_metric(alloc, m, &mut line)?;
     let [b'm', b' ', text @ .., b'\n'] = line.as_slice() else {
         return Ok(false);

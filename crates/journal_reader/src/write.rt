@@ -11,6 +11,7 @@ use fixed_num::OutOfMemory;
 use journal_text::{named_by, write_end, write_entry, write_reports, write_setup};
 use metric::Metric;
 use std::alloc::Global;
+use text_buffer::TextBuffer;
 use text_parts::{append_unsigned, append_words, settle};
 
 /// The item of an entry among these: that of a Route, where it is there.
@@ -40,7 +41,7 @@ fn another(alloc: Global, m: &Metric) -> Result<Metric, OutOfMemory>
 
 /// Appends an entry that is written beside no item.
 #[tactic(auto, unfolding(journal_text::specs::JournalText::entry_text))]
-fn append_alone(alloc: Global, e: &Entry, out: &mut Vec<u8>) -> Result<(), OutOfMemory>
+fn append_alone(alloc: Global, e: &Entry, out: &mut TextBuffer) -> Result<(), OutOfMemory>
     requires { IsWholeOrRemoved e.now }
     ensures { Adds result out.old.items out.new.items (entry_text [] e.now) }
 {
@@ -66,7 +67,7 @@ fn append_entry(
     alloc: Global,
     known: &[Metric],
     e: &Entry,
-    out: &mut Vec<u8>,
+    out: &mut TextBuffer,
 ) -> Result<(), OutOfMemory>
     requires { IsWholeOrRemoved e.now }
     ensures { Adds result out.old.items out.new.items (entry_text (item_of known.now e.now) e.now) }
@@ -90,7 +91,7 @@ fn add_known(known: &mut Vec<Metric>, e: &Entry) -> Result<(), OutOfMemory>
 }
 
 /// Appends entries.
-fn append_entries(alloc: Global, entries: &[Entry], out: &mut Vec<u8>) -> Result<(), OutOfMemory>
+fn append_entries(alloc: Global, entries: &[Entry], out: &mut TextBuffer) -> Result<(), OutOfMemory>
     requires { AllByRecursion IsWholeOrRemoved entries.now }
     ensures { Adds result out.old.items out.new.items (entries_text [] entries.now) }
 {
@@ -104,7 +105,7 @@ fn append_entries(alloc: Global, entries: &[Entry], out: &mut Vec<u8>) -> Result
 
 /// Appends a journal, or a front of it.
 #[tactic(auto, unfolding(journal_text::specs::JournalText::journal_text))]
-fn append_journal(alloc: Global, j: &Journal, out: &mut Vec<u8>) -> Result<(), OutOfMemory>
+fn append_journal(alloc: Global, j: &Journal, out: &mut TextBuffer) -> Result<(), OutOfMemory>
     requires { AllByRecursion IsWholeOrRemoved j.now.entries }
     ensures { Adds result out.old.items out.new.items
         (journal_text j.now.setup j.now.entries j.now.account) }
@@ -118,7 +119,7 @@ fn append_journal(alloc: Global, j: &Journal, out: &mut Vec<u8>) -> Result<(), O
 
 /// Appends the text of a journal. A Route has no whole exactly where its item was removed, and then no view, as in each
 /// journal that was read. `OutOfMemory` leaves `out` as it was.
-pub fn write_journal(alloc: Global, j: &Journal, out: &mut Vec<u8>) -> Result<(), OutOfMemory>
+pub fn write_journal(alloc: Global, j: &Journal, out: &mut TextBuffer) -> Result<(), OutOfMemory>
     requires { AllByRecursion IsWholeOrRemoved j.now.entries }
     ensures ok { OnOk result
         (out.new.items ≡ out.old.items ++ journal_text j.now.setup j.now.entries j.now.account) }

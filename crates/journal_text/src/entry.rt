@@ -16,12 +16,17 @@ use account::{Entry, Report};
 use fixed_num::{Moment, OutOfMemory};
 use metric::Metric;
 use std::alloc::Global;
+use text_buffer::TextBuffer;
 use text_parts::{
     append_bytes, append_line, append_numbers, append_signed, append_unsigned, append_words, settle,
 };
 
 // Appends the line of a metric.
-fn append_metric_line(alloc: Global, out: &mut Vec<u8>, metric: &Metric) -> Result<(), OutOfMemory>
+fn append_metric_line(
+    alloc: Global,
+    out: &mut TextBuffer,
+    metric: &Metric,
+) -> Result<(), OutOfMemory>
     ensures { Adds result out.old.items out.new.items (metric_line metric.now) }
 {
     append_words(out, "m ")?;
@@ -33,7 +38,7 @@ fn append_metric_line(alloc: Global, out: &mut Vec<u8>, metric: &Metric) -> Resu
 // Appends the lines of metrics.
 fn append_metric_lines(
     alloc: Global,
-    out: &mut Vec<u8>,
+    out: &mut TextBuffer,
     metrics: &[Metric],
 ) -> Result<(), OutOfMemory>
     ensures { Adds result out.old.items out.new.items (metric_lines metrics.now) }
@@ -57,7 +62,7 @@ fn report_ending(delivered: bool) -> &'static str
 
 // Appends the lines of reports.
 #[tactic(auto, unfolding(crate::specs::JournalText::report_line))]
-fn append_reports(out: &mut Vec<u8>, reports: &[Report]) -> Result<(), OutOfMemory>
+fn append_reports(out: &mut TextBuffer, reports: &[Report]) -> Result<(), OutOfMemory>
     ensures { Adds result out.old.items out.new.items (report_lines reports.now) }
 {
     for report in reports {
@@ -71,7 +76,7 @@ fn append_reports(out: &mut Vec<u8>, reports: &[Report]) -> Result<(), OutOfMemo
 }
 
 // The number of a group, and what follows it in the line of a Gather.
-fn append_group(out: &mut Vec<u8>, group: Option<u64>) -> Result<(), OutOfMemory>
+fn append_group(out: &mut TextBuffer, group: Option<u64>) -> Result<(), OutOfMemory>
     ensures { Adds result out.old.items out.new.items (codes " " ++ group_text group ++ codes "\n") }
 {
     match group {
@@ -87,7 +92,7 @@ fn append_group(out: &mut Vec<u8>, group: Option<u64>) -> Result<(), OutOfMemory
 }
 
 // Appends numbers, each behind a space.
-fn append_spaced(out: &mut Vec<u8>, numbers: &[u64]) -> Result<(), OutOfMemory>
+fn append_spaced(out: &mut TextBuffer, numbers: &[u64]) -> Result<(), OutOfMemory>
     ensures { Adds result out.old.items out.new.items (spaced numbers.now) }
 {
     for n in numbers {
@@ -99,7 +104,7 @@ fn append_spaced(out: &mut Vec<u8>, numbers: &[u64]) -> Result<(), OutOfMemory>
 // Appends the line of a Gather.
 #[tactic(auto, unfolding(crate::specs::JournalText::gather_line))]
 fn append_gather_line(
-    out: &mut Vec<u8>,
+    out: &mut TextBuffer,
     input: u32,
     moment: &Moment,
     numbers: &[u64],
@@ -116,7 +121,7 @@ fn append_gather_line(
 
 // Appends the line of a Tick or a Stop: its word, the moment, and how many metrics were made.
 fn append_made(
-    out: &mut Vec<u8>,
+    out: &mut TextBuffer,
     word: &str,
     moment: &Moment,
     made: usize,
@@ -137,7 +142,7 @@ fn done_ending(ok: bool) -> &'static str
 
 // Appends the line of a Gather. Another entry adds nothing.
 #[tactic(auto, unfolding(crate::specs::JournalText::gather_head))]
-fn append_gather(e: &Entry, out: &mut Vec<u8>) -> Result<(), OutOfMemory>
+fn append_gather(e: &Entry, out: &mut TextBuffer) -> Result<(), OutOfMemory>
     ensures { Adds result out.old.items out.new.items (gather_head (gather_of e.now)) }
 {
     let Entry::Gather {
@@ -166,7 +171,7 @@ fn append_gather(e: &Entry, out: &mut Vec<u8>) -> Result<(), OutOfMemory>
 }
 
 // Appends a Begin: its output and its positions.
-fn append_begin(out: &mut Vec<u8>, output: u32, from: u64, to: u64) -> Result<(), OutOfMemory>
+fn append_begin(out: &mut TextBuffer, output: u32, from: u64, to: u64) -> Result<(), OutOfMemory>
     ensures { Adds result out.old.items out.new.items
         (codes "begin " ++ decimal output ++ codes " " ++ decimal from ++ codes " " ++ decimal to
         ++ codes "\n") }
@@ -177,7 +182,7 @@ fn append_begin(out: &mut Vec<u8>, output: u32, from: u64, to: u64) -> Result<()
 }
 
 // Appends the line of a Done: its output, and how it ended.
-fn append_done(out: &mut Vec<u8>, output: u32, ok: bool) -> Result<(), OutOfMemory>
+fn append_done(out: &mut TextBuffer, output: u32, ok: bool) -> Result<(), OutOfMemory>
     ensures { Adds result out.old.items out.new.items
         (codes "done " ++ decimal output ++ (if ok then codes " ok\n" else codes " failed\n")) }
 {
@@ -192,7 +197,7 @@ fn append_head(
     known: Known,
     item: &[Metric],
     e: &Entry,
-    out: &mut Vec<u8>,
+    out: &mut TextBuffer,
 ) -> Result<(), OutOfMemory>
     ensures { Adds result out.old.items out.new.items (head_as known item.now e.now) }
 {
@@ -256,7 +261,7 @@ fn append_entry(
     alloc: Global,
     item: &[Metric],
     e: &Entry,
-    out: &mut Vec<u8>,
+    out: &mut TextBuffer,
 ) -> Result<(), OutOfMemory>
     ensures { Adds result out.old.items out.new.items (entry_text item.now e.now) }
 {
@@ -273,7 +278,7 @@ pub fn write_entry(
     alloc: Global,
     metrics: &[Metric],
     e: &Entry,
-    out: &mut Vec<u8>,
+    out: &mut TextBuffer,
 ) -> Result<(), OutOfMemory>
     requires item { HasItem metrics.now e.now }
     requires whole { IsWholeOrRemoved e.now }
@@ -295,7 +300,7 @@ pub fn write_head(
     known: Known,
     metrics: &[Metric],
     e: &Entry,
-    out: &mut Vec<u8>,
+    out: &mut TextBuffer,
 ) -> Result<(), OutOfMemory>
     requires item { HasItem metrics.now e.now }
     requires whole { IsWholeOrRemoved e.now }
@@ -308,7 +313,7 @@ pub fn write_head(
 }
 
 /// Appends the line of a metric that an entry names. `OutOfMemory` leaves `out` as it was.
-pub fn write_metric(alloc: Global, metric: &Metric, out: &mut Vec<u8>) -> Result<(), OutOfMemory>
+pub fn write_metric(alloc: Global, metric: &Metric, out: &mut TextBuffer) -> Result<(), OutOfMemory>
     ensures ok { OnOk result (out.new.items ≡ out.old.items ++ metric_line metric.now) }
     ensures err { OnErr result (out.new.items ≡ out.old.items) }
 {
@@ -318,7 +323,7 @@ pub fn write_metric(alloc: Global, metric: &Metric, out: &mut Vec<u8>) -> Result
 }
 
 /// Appends the lines of an entry's reports. `OutOfMemory` leaves `out` as it was.
-pub fn write_reports(e: &Entry, out: &mut Vec<u8>) -> Result<(), OutOfMemory>
+pub fn write_reports(e: &Entry, out: &mut TextBuffer) -> Result<(), OutOfMemory>
     ensures ok { OnOk result (out.new.items ≡ out.old.items ++ report_lines (reports_of e.now)) }
     ensures err { OnErr result (out.new.items ≡ out.old.items) }
 {
@@ -329,7 +334,7 @@ pub fn write_reports(e: &Entry, out: &mut Vec<u8>) -> Result<(), OutOfMemory>
 
 // Appends the end, or a front of it.
 #[tactic(auto, unfolding(crate::specs::JournalText::end_text))]
-fn append_end(account: &[u8], entries: u64, out: &mut Vec<u8>) -> Result<(), OutOfMemory>
+fn append_end(account: &[u8], entries: u64, out: &mut TextBuffer) -> Result<(), OutOfMemory>
     ensures { Adds result out.old.items out.new.items (end_text account.now entries) }
 {
     append_bytes(out, account)?;
@@ -343,7 +348,7 @@ pub fn write_end(
     _alloc: Global,
     account: &[u8],
     entries: u64,
-    out: &mut Vec<u8>,
+    out: &mut TextBuffer,
 ) -> Result<(), OutOfMemory>
     ensures ok { OnOk result (out.new.items ≡ out.old.items ++ end_text account.now entries) }
     ensures err { OnErr result (out.new.items ≡ out.old.items) }

@@ -9,6 +9,7 @@ ghost use Rattle.journal_text.specs.MetricText.{tag_text, field_text, fields_tex
 use fixed_num::OutOfMemory;
 use metric::{Metric, Text, Value, is_plain};
 use std::alloc::Global;
+use text_buffer::TextBuffer;
 use text_parts::{append_signed, append_unsigned, append_words};
 
 // An upper-case hexadecimal digit.
@@ -22,7 +23,7 @@ fn hex_digit(n: u8) -> u8
 
 // Appends a byte.
 #[inline(always)]
-pub fn append_byte(out: &mut Vec<u8>, byte: u8) -> Result<(), OutOfMemory>
+pub fn append_byte(out: &mut TextBuffer, byte: u8) -> Result<(), OutOfMemory>
     ensures { Adds result out.old.items out.new.items (byte ∷ []) }
 {
     out.push(byte)?;
@@ -33,7 +34,7 @@ pub fn append_byte(out: &mut Vec<u8>, byte: u8) -> Result<(), OutOfMemory>
 #[cold]
 #[inline(never)]
 #[tactic(auto, unfolding(crate::specs::MetricText::byte_text))]
-fn append_escape(out: &mut Vec<u8>, b: u8) -> Result<(), OutOfMemory>
+fn append_escape(out: &mut TextBuffer, b: u8) -> Result<(), OutOfMemory>
     requires { is_plain b ≡ false }
     ensures { Adds result out.old.items out.new.items (byte_text b) }
 {
@@ -51,7 +52,7 @@ fn plain_len(bytes: &[u8]) -> usize
 
 // Appends bytes: plain ones as they are, others escaped.
 #[inline(never)]
-fn append_escaped(out: &mut Vec<u8>, bytes: &[u8]) -> Result<(), OutOfMemory>
+fn append_escaped(out: &mut TextBuffer, bytes: &[u8]) -> Result<(), OutOfMemory>
     ensures { Adds result out.old.items out.new.items (escaped bytes.now) }
 {
     let mut rest = bytes;
@@ -69,7 +70,7 @@ fn append_escaped(out: &mut Vec<u8>, bytes: &[u8]) -> Result<(), OutOfMemory>
 }
 
 // Appends a name, a key or a text. Most are plain.
-fn append_text(out: &mut Vec<u8>, text: &Text) -> Result<(), OutOfMemory>
+fn append_text(out: &mut TextBuffer, text: &Text) -> Result<(), OutOfMemory>
     ensures { Adds result out.old.items out.new.items (escaped text.now) }
 {
     if text.is_known_plain() {
@@ -80,7 +81,7 @@ fn append_text(out: &mut Vec<u8>, text: &Text) -> Result<(), OutOfMemory>
 
 // Appends a value: a letter that tells its type, and what it is.
 #[tactic(auto, unfolding(crate::specs::MetricText::value_text))]
-fn append_value(alloc: Global, out: &mut Vec<u8>, value: &Value) -> Result<(), OutOfMemory>
+fn append_value(alloc: Global, out: &mut TextBuffer, value: &Value) -> Result<(), OutOfMemory>
     ensures { Adds result out.old.items out.new.items (value_text value.now) }
 {
     match value {
@@ -103,7 +104,7 @@ fn append_value(alloc: Global, out: &mut Vec<u8>, value: &Value) -> Result<(), O
 
 // Appends a tag, behind a semicolon.
 #[tactic(auto, unfolding(crate::specs::MetricText::tag_text))]
-fn append_tag(out: &mut Vec<u8>, key: &Text, value: &Text) -> Result<(), OutOfMemory>
+fn append_tag(out: &mut TextBuffer, key: &Text, value: &Text) -> Result<(), OutOfMemory>
     ensures { Adds result out.old.items out.new.items (tag_text (key.now, value.now)) }
 {
     append_byte(out, b';')?;
@@ -117,7 +118,7 @@ fn append_tag(out: &mut Vec<u8>, key: &Text, value: &Text) -> Result<(), OutOfMe
 #[tactic(auto, unfolding(crate::specs::MetricText::field_text))]
 fn append_field(
     alloc: Global,
-    out: &mut Vec<u8>,
+    out: &mut TextBuffer,
     key: &Text,
     value: &Value,
 ) -> Result<(), OutOfMemory>
@@ -130,7 +131,7 @@ fn append_field(
 }
 
 // Appends tags, each behind a semicolon.
-fn append_tags(out: &mut Vec<u8>, tags: &[(Text, Text)]) -> Result<(), OutOfMemory>
+fn append_tags(out: &mut TextBuffer, tags: &[(Text, Text)]) -> Result<(), OutOfMemory>
     ensures { Adds result out.old.items out.new.items (flat_map tag_text tags.now) }
 {
     for (key, value) in tags {
@@ -142,7 +143,7 @@ fn append_tags(out: &mut Vec<u8>, tags: &[(Text, Text)]) -> Result<(), OutOfMemo
 // Appends fields, each behind a semicolon.
 fn append_other_fields(
     alloc: Global,
-    out: &mut Vec<u8>,
+    out: &mut TextBuffer,
     fields: &[(Text, Value)],
 ) -> Result<(), OutOfMemory>
     ensures { Adds result out.old.items out.new.items
@@ -159,7 +160,7 @@ fn append_other_fields(
 #[tactic(auto, unfolding(crate::specs::MetricText::fields_text))]
 fn append_fields(
     alloc: Global,
-    out: &mut Vec<u8>,
+    out: &mut TextBuffer,
     fields: &[(Text, Value)],
 ) -> Result<(), OutOfMemory>
     ensures { Adds result out.old.items out.new.items (fields_text fields.now) }
@@ -173,7 +174,11 @@ fn append_fields(
 
 // Appends a metric: its name with its tags, its fields and its time.
 #[tactic(auto, unfolding(crate::specs::MetricText::metric_text))]
-pub fn append_metric(alloc: Global, out: &mut Vec<u8>, metric: &Metric) -> Result<(), OutOfMemory>
+pub fn append_metric(
+    alloc: Global,
+    out: &mut TextBuffer,
+    metric: &Metric,
+) -> Result<(), OutOfMemory>
     ensures { Adds result out.old.items out.new.items (metric_text metric.now) }
 {
     append_text(out, metric.name())?;

@@ -11,6 +11,7 @@ use account::Verdict;
 use fixed_num::{OutOfMemory, Seq};
 use metric::Metric;
 use std::alloc::Global;
+use text_buffer::TextBuffer;
 use text_parts::append_words;
 
 /// What became of an item as it was routed.
@@ -46,7 +47,7 @@ impl<'a> Outcome<'a> {
 #[tactic(auto, unfolding(crate::specs::Known::view_as, crate::specs::JournalText::beside_text))]
 fn append_view(
     alloc: Global,
-    out: &mut Vec<u8>,
+    out: &mut TextBuffer,
     same: bool,
     whole: &Metric,
     view: &Option<Metric>,
@@ -70,7 +71,7 @@ fn append_view(
 // Appends views, each behind a space.
 fn append_views(
     alloc: Global,
-    out: &mut Vec<u8>,
+    out: &mut TextBuffer,
     same: bool,
     whole: &Metric,
     views: &[Option<Metric>],
@@ -97,7 +98,7 @@ fn is_one_whole(same: bool, whole: &Metric, views: &[Option<Metric>]) -> bool
 // Appends the views at outputs, which end the line of a Route. Most have one output, which sees the whole.
 fn append_outs(
     alloc: Global,
-    out: &mut Vec<u8>,
+    out: &mut TextBuffer,
     same: bool,
     whole: &Metric,
     outs: &[Option<Metric>],
@@ -157,7 +158,7 @@ fn word_of_item(verdict: Verdict) -> &'static str
 // Appends the whole of a Route, `=` where it is its item, and the word for what became of that.
 fn append_whole(
     alloc: Global,
-    out: &mut Vec<u8>,
+    out: &mut TextBuffer,
     same: bool,
     item: &[Metric],
     whole: &Metric,
@@ -192,7 +193,7 @@ fn is_as_it_was(known: Known, item: &[Metric], whole: &Metric, outcome: &Outcome
 #[tactic(auto, unfolding(crate::specs::Known::routed_as))]
 pub(crate) fn append_routed(
     alloc: Global,
-    out: &mut Vec<u8>,
+    out: &mut TextBuffer,
     known: Known,
     item: &[Metric],
     whole: &Option<Metric>,

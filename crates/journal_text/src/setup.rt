@@ -8,6 +8,7 @@ ghost use Rattle.journal_text.specs.SetupText.{output_line, start_lines, setup_t
 use account::{AggLine, AggWord};
 use fixed_num::{Moment, OutOfMemory, Seq};
 use std::alloc::Global;
+use text_buffer::TextBuffer;
 use text_parts::{append_numbers, append_signed, append_words, settle};
 
 /// What a journal is about.
@@ -25,7 +26,7 @@ pub struct JournalSetup {
 
 // Appends the line of an input.
 #[tactic(auto, unfolding(crate::specs::SetupText::input_line))]
-fn append_input(out: &mut Vec<u8>, input: u64, most: Option<u32>) -> Result<(), OutOfMemory>
+fn append_input(out: &mut TextBuffer, input: u64, most: Option<u32>) -> Result<(), OutOfMemory>
     ensures { Adds result out.old.items out.new.items (input_line input most) }
 {
     match most {
@@ -45,7 +46,7 @@ fn append_input(out: &mut Vec<u8>, input: u64, most: Option<u32>) -> Result<(), 
 }
 
 // Appends a letter where its statistic is set.
-fn append_letter(out: &mut Vec<u8>, letter: &str, wanted: bool) -> Result<(), OutOfMemory>
+fn append_letter(out: &mut TextBuffer, letter: &str, wanted: bool) -> Result<(), OutOfMemory>
     ensures { Adds result out.old.items out.new.items (if wanted then letter.now else []) }
 {
     if wanted {
@@ -58,7 +59,7 @@ fn append_letter(out: &mut Vec<u8>, letter: &str, wanted: bool) -> Result<(), Ou
 // Appends the letters of the statistics that are set.
 #[tactic(auto, unfolding(crate::specs::SetupText::letters_text))]
 fn append_letters(
-    out: &mut Vec<u8>,
+    out: &mut TextBuffer,
     sum: bool,
     count: bool,
     min: bool,
@@ -75,7 +76,7 @@ fn append_letters(
 
 // Appends the kind of an aggregator.
 #[tactic(auto, unfolding(crate::specs::SetupText::kind_text))]
-fn append_kind(out: &mut Vec<u8>, kind: &AggWord) -> Result<(), OutOfMemory>
+fn append_kind(out: &mut TextBuffer, kind: &AggWord) -> Result<(), OutOfMemory>
     ensures { Adds result out.old.items out.new.items (kind_text kind.now) }
 {
     match kind {
@@ -104,7 +105,7 @@ fn ending(dropping: bool) -> &'static str
 
 // Appends an aggregator's period, delay and grace, each behind a space.
 #[tactic(auto, unfolding(crate::specs::SetupText::times_text))]
-fn append_times(out: &mut Vec<u8>, line: &AggLine) -> Result<(), OutOfMemory>
+fn append_times(out: &mut TextBuffer, line: &AggLine) -> Result<(), OutOfMemory>
     ensures { Adds result out.old.items out.new.items (times_text line.now) }
 {
     append_signed(out, " ", &line.period)?;
@@ -115,7 +116,7 @@ fn append_times(out: &mut Vec<u8>, line: &AggLine) -> Result<(), OutOfMemory>
 
 // Appends the line of an aggregator.
 #[tactic(auto, unfolding(crate::specs::SetupText::agg_line))]
-fn append_agg(out: &mut Vec<u8>, agg: u64, line: &AggLine) -> Result<(), OutOfMemory>
+fn append_agg(out: &mut TextBuffer, agg: u64, line: &AggLine) -> Result<(), OutOfMemory>
     ensures { Adds result out.old.items out.new.items (agg_line agg line.now) }
 {
     append_numbers(out, &[("aggregator ", agg)], " ")?;
@@ -127,7 +128,7 @@ fn append_agg(out: &mut Vec<u8>, agg: u64, line: &AggLine) -> Result<(), OutOfMe
 
 // Appends the line of an output.
 #[tactic(auto, unfolding(crate::specs::SetupText::output_line))]
-fn append_output(out: &mut Vec<u8>, output: u64, sizes: &(u32, u32)) -> Result<(), OutOfMemory>
+fn append_output(out: &mut TextBuffer, output: u64, sizes: &(u32, u32)) -> Result<(), OutOfMemory>
     ensures { Adds result out.old.items out.new.items (output_line output sizes.now) }
 {
     let (batch, limit) = *sizes;
@@ -145,7 +146,7 @@ fn append_output(out: &mut Vec<u8>, output: u64, sizes: &(u32, u32)) -> Result<(
 
 // Appends the lines of inputs, counted from 0.
 #[tactic(auto, using(account::proofs::NumberedLemmas::appending), unfolding(account::specs::AccountText::numbered))]
-fn append_inputs(out: &mut Vec<u8>, inputs: &[Option<u32>]) -> Result<(), OutOfMemory>
+fn append_inputs(out: &mut TextBuffer, inputs: &[Option<u32>]) -> Result<(), OutOfMemory>
     ensures { Adds result out.old.items out.new.items (numbered input_line 0 inputs.now) }
 {
     for (i, most) in inputs.iter().enumerate() {
@@ -156,7 +157,7 @@ fn append_inputs(out: &mut Vec<u8>, inputs: &[Option<u32>]) -> Result<(), OutOfM
 
 // Appends the lines of aggregators, counted from 0.
 #[tactic(auto, using(account::proofs::NumberedLemmas::appending), unfolding(account::specs::AccountText::numbered))]
-fn append_aggs(out: &mut Vec<u8>, aggs: &[AggLine]) -> Result<(), OutOfMemory>
+fn append_aggs(out: &mut TextBuffer, aggs: &[AggLine]) -> Result<(), OutOfMemory>
     ensures { Adds result out.old.items out.new.items (numbered agg_line 0 aggs.now) }
 {
     for (i, line) in aggs.iter().enumerate() {
@@ -167,7 +168,7 @@ fn append_aggs(out: &mut Vec<u8>, aggs: &[AggLine]) -> Result<(), OutOfMemory>
 
 // Appends the lines of outputs, counted from 0.
 #[tactic(auto, using(account::proofs::NumberedLemmas::appending), unfolding(account::specs::AccountText::numbered))]
-fn append_outputs(out: &mut Vec<u8>, outputs: &[(u32, u32)]) -> Result<(), OutOfMemory>
+fn append_outputs(out: &mut TextBuffer, outputs: &[(u32, u32)]) -> Result<(), OutOfMemory>
     ensures { Adds result out.old.items out.new.items (numbered output_line 0 outputs.now) }
 {
     for (i, sizes) in outputs.iter().enumerate() {
@@ -178,7 +179,7 @@ fn append_outputs(out: &mut Vec<u8>, outputs: &[(u32, u32)]) -> Result<(), OutOf
 
 // Appends the version, and the moment of the start.
 #[tactic(auto, unfolding(crate::specs::SetupText::start_lines))]
-fn append_start(out: &mut Vec<u8>, start: &Moment) -> Result<(), OutOfMemory>
+fn append_start(out: &mut TextBuffer, start: &Moment) -> Result<(), OutOfMemory>
     ensures { Adds result out.old.items out.new.items (start_lines start.now) }
 {
     append_signed(out, "journal 1\nstart ", start)?;
@@ -188,7 +189,7 @@ fn append_start(out: &mut Vec<u8>, start: &Moment) -> Result<(), OutOfMemory>
 
 // Appends the head of a journal, or a front of it.
 #[tactic(auto, unfolding(crate::specs::SetupText::setup_text))]
-fn append_setup(s: &JournalSetup, out: &mut Vec<u8>) -> Result<(), OutOfMemory>
+fn append_setup(s: &JournalSetup, out: &mut TextBuffer) -> Result<(), OutOfMemory>
     ensures { Adds result out.old.items out.new.items (setup_text s.now) }
 {
     append_start(out, &s.start)?;
@@ -200,9 +201,13 @@ fn append_setup(s: &JournalSetup, out: &mut Vec<u8>) -> Result<(), OutOfMemory>
 
 /// Appends the head of a journal: `journal 1`, `start` and the moment, then a line for each input,
 /// aggregator and output, in order. `OutOfMemory` leaves `out` as it was.
-pub fn write_setup(_alloc: Global, s: &JournalSetup, out: &mut Vec<u8>) -> Result<(), OutOfMemory>
-    ensures ok { OnOk result (out.new.items ≡ out.old.items ++ setup_text s.now) }
+pub fn write_setup(
+    _alloc: Global,
+    s: &JournalSetup,
+    out: &mut TextBuffer,
+) -> Result<(), OutOfMemory>
     ensures err { OnErr result (out.new.items ≡ out.old.items) }
+    ensures ok { OnOk result (out.new.items ≡ out.old.items ++ setup_text s.now) }
 {
     let len = out.len();
     let written = append_setup(s, out);

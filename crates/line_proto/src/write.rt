@@ -12,6 +12,7 @@ ghost use Rattle.text_parts.specs.Adds.{Adds};
 use fixed_num::OutOfMemory;
 use metric::{Metric, Text, Value};
 use std::alloc::Global;
+use text_buffer::TextBuffer;
 use text_parts::{
     Marks, append_escaped, append_escaped_byte, append_int, append_signed, append_uint,
     append_words, settle,
@@ -22,7 +23,7 @@ use text_parts::{
 /// return inside a text is written as a space. In the measurement, in keys and in tag values backslashes at
 /// the end are left out, and `_` is written where nothing stays; a `#` at the front of the measurement is
 /// written as `_`. After OutOfMemory `out` is as before.
-pub fn write_line(alloc: Global, metric: &Metric, out: &mut Vec<u8>) -> Result<(), OutOfMemory>
+pub fn write_line(alloc: Global, metric: &Metric, out: &mut TextBuffer) -> Result<(), OutOfMemory>
     ensures ok { OnOk result (out.new.items ≡ out.old.items ++ line_text metric.now) }
     ensures err { OnErr result (out.new.items ≡ out.old.items) }
 {
@@ -33,7 +34,11 @@ pub fn write_line(alloc: Global, metric: &Metric, out: &mut Vec<u8>) -> Result<(
 
 /// Appends a metric's line without its time: `measurement,key=value.. field=value,..` and a newline, each as `write_line`
 /// writes it. Who reads it gives it the moment at which it is read. After OutOfMemory `out` is as before.
-pub fn write_untimed(alloc: Global, metric: &Metric, out: &mut Vec<u8>) -> Result<(), OutOfMemory>
+pub fn write_untimed(
+    alloc: Global,
+    metric: &Metric,
+    out: &mut TextBuffer,
+) -> Result<(), OutOfMemory>
     ensures ok { OnOk result (out.new.items ≡ out.old.items ++ untimed_text metric.now) }
     ensures err { OnErr result (out.new.items ≡ out.old.items) }
 {
@@ -46,7 +51,7 @@ pub fn write_untimed(alloc: Global, metric: &Metric, out: &mut Vec<u8>) -> Resul
 const LIKELY: usize = 256;
 
 #[tactic(auto, unfolding(crate::specs::LineText::line_text))]
-fn append_metric(alloc: Global, metric: &Metric, out: &mut Vec<u8>) -> Result<(), OutOfMemory>
+fn append_metric(alloc: Global, metric: &Metric, out: &mut TextBuffer) -> Result<(), OutOfMemory>
     ensures { Adds result out.old.items out.new.items (line_text metric.now) }
 {
     out.reserve(LIKELY)?;
@@ -57,7 +62,7 @@ fn append_metric(alloc: Global, metric: &Metric, out: &mut Vec<u8>) -> Result<()
 }
 
 #[tactic(auto, unfolding(crate::specs::LineText::untimed_text))]
-fn append_untimed(alloc: Global, metric: &Metric, out: &mut Vec<u8>) -> Result<(), OutOfMemory>
+fn append_untimed(alloc: Global, metric: &Metric, out: &mut TextBuffer) -> Result<(), OutOfMemory>
     ensures { Adds result out.old.items out.new.items (untimed_text metric.now) }
 {
     out.reserve(LIKELY)?;
@@ -68,7 +73,7 @@ fn append_untimed(alloc: Global, metric: &Metric, out: &mut Vec<u8>) -> Result<(
 
 /// Appends the measurement, the tags and the fields.
 #[tactic(auto, unfolding(crate::specs::LineText::head_text))]
-fn append_head(alloc: Global, metric: &Metric, out: &mut Vec<u8>) -> Result<(), OutOfMemory>
+fn append_head(alloc: Global, metric: &Metric, out: &mut TextBuffer) -> Result<(), OutOfMemory>
     ensures { Adds result out.old.items out.new.items (head_text metric.now) }
 {
     append_name(metric.name(), out)?;
@@ -77,7 +82,7 @@ fn append_head(alloc: Global, metric: &Metric, out: &mut Vec<u8>) -> Result<(), 
     append_fields(alloc, metric.fields(), out)
 }
 
-fn append_tags(tags: &[(Text, Text)], out: &mut Vec<u8>) -> Result<(), OutOfMemory>
+fn append_tags(tags: &[(Text, Text)], out: &mut TextBuffer) -> Result<(), OutOfMemory>
     ensures { Adds result out.old.items out.new.items (flat_map tag_text tags.now) }
 {
     for tag in tags {
@@ -87,7 +92,7 @@ fn append_tags(tags: &[(Text, Text)], out: &mut Vec<u8>) -> Result<(), OutOfMemo
 }
 
 #[tactic(auto, unfolding(crate::specs::LineText::tag_text))]
-fn append_tag(tag: &(Text, Text), out: &mut Vec<u8>) -> Result<(), OutOfMemory>
+fn append_tag(tag: &(Text, Text), out: &mut TextBuffer) -> Result<(), OutOfMemory>
     ensures { Adds result out.old.items out.new.items (tag_text tag.now) }
 {
     out.push(b',')?;
@@ -99,7 +104,7 @@ fn append_tag(tag: &(Text, Text), out: &mut Vec<u8>) -> Result<(), OutOfMemory>
 fn append_fields(
     alloc: Global,
     fields: &[(Text, Value)],
-    out: &mut Vec<u8>,
+    out: &mut TextBuffer,
 ) -> Result<(), OutOfMemory>
     ensures { Adds result out.old.items out.new.items (join_by field_text (codes ",") fields.now) }
 {
@@ -116,7 +121,7 @@ fn append_fields(
 fn append_rest(
     alloc: Global,
     fields: &[(Text, Value)],
-    out: &mut Vec<u8>,
+    out: &mut TextBuffer,
 ) -> Result<(), OutOfMemory>
     ensures { Adds result out.old.items out.new.items
         (flat_map (λ field. codes "," ++ field_text field) fields.now) }
@@ -128,7 +133,11 @@ fn append_rest(
 }
 
 /// Appends a comma and a field.
-fn append_next(alloc: Global, field: &(Text, Value), out: &mut Vec<u8>) -> Result<(), OutOfMemory>
+fn append_next(
+    alloc: Global,
+    field: &(Text, Value),
+    out: &mut TextBuffer,
+) -> Result<(), OutOfMemory>
     ensures { Adds result out.old.items out.new.items (codes "," ++ field_text field.now) }
 {
     out.push(b',')?;
@@ -136,7 +145,11 @@ fn append_next(alloc: Global, field: &(Text, Value), out: &mut Vec<u8>) -> Resul
 }
 
 #[tactic(auto, unfolding(crate::specs::LineText::field_text))]
-fn append_field(alloc: Global, field: &(Text, Value), out: &mut Vec<u8>) -> Result<(), OutOfMemory>
+fn append_field(
+    alloc: Global,
+    field: &(Text, Value),
+    out: &mut TextBuffer,
+) -> Result<(), OutOfMemory>
     ensures { Adds result out.old.items out.new.items (field_text field.now) }
 {
     append_key(&field.0, out)?;
@@ -145,7 +158,7 @@ fn append_field(alloc: Global, field: &(Text, Value), out: &mut Vec<u8>) -> Resu
 }
 
 #[tactic(auto, unfolding(crate::specs::LineText::value_text))]
-fn append_value(alloc: Global, value: &Value, out: &mut Vec<u8>) -> Result<(), OutOfMemory>
+fn append_value(alloc: Global, value: &Value, out: &mut TextBuffer) -> Result<(), OutOfMemory>
     ensures { Adds result out.old.items out.new.items (value_text value.now) }
 {
     match value {
@@ -166,7 +179,7 @@ fn append_value(alloc: Global, value: &Value, out: &mut Vec<u8>) -> Result<(), O
 }
 
 /// Appends a text between double quotes.
-fn append_quoted(text: &Text, out: &mut Vec<u8>) -> Result<(), OutOfMemory>
+fn append_quoted(text: &Text, out: &mut TextBuffer) -> Result<(), OutOfMemory>
     ensures { Adds result out.old.items out.new.items
         (codes "\"" ++ escaped text_escapes (on_one_line text.now) ++ codes "\"") }
 {
@@ -177,7 +190,7 @@ fn append_quoted(text: &Text, out: &mut Vec<u8>) -> Result<(), OutOfMemory>
 }
 
 /// Appends a text as it stands between double quotes.
-fn append_inside(text: &Text, out: &mut Vec<u8>) -> Result<(), OutOfMemory>
+fn append_inside(text: &Text, out: &mut TextBuffer) -> Result<(), OutOfMemory>
     ensures { Adds result out.old.items out.new.items (escaped text_escapes (on_one_line text.now)) }
 {
     append_part(out, &TEXT_MARKS, text, text.as_str().as_bytes())
@@ -185,7 +198,7 @@ fn append_inside(text: &Text, out: &mut Vec<u8>) -> Result<(), OutOfMemory>
 
 /// Appends a measurement.
 #[tactic(auto, unfolding(crate::specs::LineText::name_text))]
-fn append_name(name: &Text, out: &mut Vec<u8>) -> Result<(), OutOfMemory>
+fn append_name(name: &Text, out: &mut TextBuffer) -> Result<(), OutOfMemory>
     ensures { Adds result out.old.items out.new.items (name_text name.now) }
 {
     let kept = trim(name.as_str().as_bytes());
@@ -200,7 +213,7 @@ fn append_name(name: &Text, out: &mut Vec<u8>) -> Result<(), OutOfMemory>
 }
 
 /// Appends a key or the value of a tag.
-fn append_key(key: &Text, out: &mut Vec<u8>) -> Result<(), OutOfMemory>
+fn append_key(key: &Text, out: &mut TextBuffer) -> Result<(), OutOfMemory>
     ensures { Adds result out.old.items out.new.items (key_text key.now) }
 {
     if key.is_known_plain() {
@@ -211,7 +224,7 @@ fn append_key(key: &Text, out: &mut Vec<u8>) -> Result<(), OutOfMemory>
 
 /// The same, of a plain text, in which nothing is escaped and left out.
 #[inline(always)]
-fn append_plain_key(key: &Text, out: &mut Vec<u8>) -> Result<(), OutOfMemory>
+fn append_plain_key(key: &Text, out: &mut TextBuffer) -> Result<(), OutOfMemory>
     requires { list_all is_plain key.now ≡ true }
     ensures { Adds result out.old.items out.new.items (key_text key.now) }
 {
@@ -224,7 +237,7 @@ fn append_plain_key(key: &Text, out: &mut Vec<u8>) -> Result<(), OutOfMemory>
 /// The same, of any text.
 #[inline(never)]
 #[tactic(auto, unfolding(crate::specs::LineText::key_text))]
-fn append_any_key(key: &Text, out: &mut Vec<u8>) -> Result<(), OutOfMemory>
+fn append_any_key(key: &Text, out: &mut TextBuffer) -> Result<(), OutOfMemory>
     ensures { Adds result out.old.items out.new.items (key_text key.now) }
 {
     let kept = trim(key.as_str().as_bytes());
@@ -282,7 +295,7 @@ fn is_one_line(text: &[u8]) -> bool
 }
 
 /// Appends a text in one line with its marks escaped.
-fn append_in_line(out: &mut Vec<u8>, marks: &Marks, text: &[u8]) -> Result<(), OutOfMemory>
+fn append_in_line(out: &mut TextBuffer, marks: &Marks, text: &[u8]) -> Result<(), OutOfMemory>
     ensures { Adds result out.old.items out.new.items
         (escaped (escapes_of marks.now) (on_one_line text.now)) }
 {
@@ -299,7 +312,7 @@ fn append_in_line(out: &mut Vec<u8>, marks: &Marks, text: &[u8]) -> Result<(), O
 /// Appends a part of a text in one line with its marks escaped. Of a plain text the part is all, and has none of them.
 #[inline(always)]
 fn append_part(
-    out: &mut Vec<u8>,
+    out: &mut TextBuffer,
     marks: &Marks,
     text: &Text,
     part: &[u8],

@@ -4,6 +4,7 @@ ghost use Rattle.std.specs.Prelude.{◌≡◌, ◌≤◌, ◌++◌, true, length
 use fixed_num::OutOfMemory;
 use std::marker::Model;
 use std::{fmt, str};
+use text_buffer::TextBuffer;
 
 /// The most bytes of a text in place.
 pub(crate) const MOST: usize = 24;
@@ -50,16 +51,14 @@ impl InPlace {
         unsafe { str::from_utf8_unchecked(bytes) }
     }
 
-    /// Appends the text. All cells are copied, so that the copy has one size, and what stands behind the text is cut off.
+    /// Appends the text. All cells are copied, so that the copy has one size.
     /// `OutOfMemory` leaves `out` as it was.
     #[inline(always)]
-    pub fn append(&self, out: &mut Vec<u8>) -> Result<(), OutOfMemory>
+    pub fn append(&self, out: &mut TextBuffer) -> Result<(), OutOfMemory>
         ensures ok { OnOk result (out.new.items ≡ out.old.items ++ self.now) }
         ensures err { OnErr result (out.new.items ≡ out.old.items) }
     {
-        let end = out.len() + self.len as usize;
-        out.extend_from_slice(&self.cells)?;
-        out.truncate(end);
+        out.extend_from_front(&self.cells, self.len as usize)?;
         Ok(())
     }
 

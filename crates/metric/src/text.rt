@@ -22,6 +22,7 @@ use std::cmp::Ordering;
 use std::hash::{Hash, Hasher};
 use std::marker::Model;
 use std::sync::Arc;
+use text_buffer::TextBuffer;
 
 /// How a text is kept.
 #[derive(Drop, Debug)]
@@ -129,7 +130,7 @@ impl Text {
 
     /// Appends the text. `OutOfMemory` leaves `out` as it was.
     #[inline(always)]
-    pub fn append(&self, out: &mut Vec<u8>) -> Result<(), OutOfMemory>
+    pub fn append(&self, out: &mut TextBuffer) -> Result<(), OutOfMemory>
         ensures ok { OnOk result (out.new.items ≡ out.old.items ++ self.now) }
         ensures err { OnErr result (out.new.items ≡ out.old.items) }
     {
@@ -154,7 +155,7 @@ impl Text {
 
 /// Appends a long text, apart from the code of short ones.
 #[inline(never)]
-fn append_long(text: &str, out: &mut Vec<u8>) -> Result<(), OutOfMemory>
+fn append_long(text: &str, out: &mut TextBuffer) -> Result<(), OutOfMemory>
     ensures ok { OnOk result (out.new.items ≡ out.old.items ++ text.now) }
     ensures err { OnErr result (out.new.items ≡ out.old.items) }
 {

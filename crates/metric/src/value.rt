@@ -1,12 +1,12 @@
 //! The value of a field.
-ghost use Rattle.std.specs.Prelude.{◌≡◌, ◌++◌, [], ◌∷◌, decimal, IfOk, OnOk, OnErr};
-ghost use Rattle.std.specs.Fmt.{signed_decimal};
+ghost use Rattle.std.specs.Prelude.{◌≡◌, ◌++◌, IfOk, OnOk, OnErr};
 ghost use Rattle.metric.specs.Metric.{IsValue};
 ghost use Rattle.metric.specs.Numbers.{is_text, number_text};
 
 use crate::Text;
 use fixed_num::{Fixed, OutOfMemory};
 use std::alloc::Global;
+use text_buffer::TextBuffer;
 
 /// The value of a field.
 #[derive(Debug, PartialEq, Eq, Drop)]
@@ -69,48 +69,18 @@ impl Value {
     /// Appends the number in decimal digits: a whole number, the canonical text of one with nine decimals, 1 or 0 for a
     /// truth value, nothing for a text. `OutOfMemory` leaves `out` as it was.
     #[tactic(auto, unfolding(crate::specs::Numbers::number_text))]
-    pub fn append_number(&self, alloc: Global, out: &mut Vec<u8>) -> Result<(), OutOfMemory>
+    pub fn append_number(&self, alloc: Global, out: &mut TextBuffer) -> Result<(), OutOfMemory>
         ensures ok { OnOk result (out.new.items ≡ out.old.items ++ number_text self.now) }
         ensures err { OnErr result (out.new.items ≡ out.old.items) }
     {
         match self {
-            Value::Int(n) => append_int(out, n),
-            Value::Uint(n) => append_uint(out, *n),
-            Value::Fixed(n) => n.append(alloc, out),
-            Value::Bool(true) => append_byte(out, b'1'),
-            Value::Bool(false) => append_byte(out, b'0'),
-            Value::Text(_) => Ok(()),
+            Value::Int(n) => out.push_int(*n)?,
+            Value::Uint(n) => out.push_uint(*n)?,
+            Value::Fixed(n) => n.append(alloc, out)?,
+            Value::Bool(true) => out.push(b'1')?,
+            Value::Bool(false) => out.push(b'0')?,
+            Value::Text(_) => {}
         }
+        Ok(())
     }
-}
-
-/// Appends a byte.
-fn append_byte(out: &mut Vec<u8>, byte: u8) -> Result<(), OutOfMemory>
-    ensures ok { OnOk result (out.new.items ≡ out.old.items ++ byte ∷ []) }
-    ensures err { OnErr result (out.new.items ≡ out.old.items) }
-{
-    out.push(byte)?;
-    Ok(())
-}
-
-/// Appends a whole number in decimal digits.
-#[inline(never)]
-fn append_uint(out: &mut Vec<u8>, n: u64) -> Result<(), OutOfMemory>
-    ensures ok { OnOk result (out.new.items ≡ out.old.items ++ decimal n) }
-    ensures err { OnErr result (out.new.items ≡ out.old.items) }
-{
-    let mut buffer = itoa::Buffer::new();
-    out.extend_from_slice(buffer.format(n).as_bytes())?;
-    Ok(())
-}
-
-/// Appends a whole number in decimal digits, with `-` before them where it is negative.
-#[inline(never)]
-fn append_int(out: &mut Vec<u8>, n: &i64) -> Result<(), OutOfMemory>
-    ensures ok { OnOk result (out.new.items ≡ out.old.items ++ signed_decimal n.now) }
-    ensures err { OnErr result (out.new.items ≡ out.old.items) }
-{
-    let mut buffer = itoa::Buffer::new();
-    out.extend_from_slice(buffer.format(*n).as_bytes())?;
-    Ok(())
 }

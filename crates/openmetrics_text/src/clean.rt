@@ -8,7 +8,8 @@ ghost use Rattle.openmetrics_text.specs.Writing.{clean_byte, digit_mark, cleaned
 use crate::names::{Alphabet, begins_with_digit};
 use fixed_num::OutOfMemory;
 use std::alloc::Global;
-use text_parts::{append_words, translate};
+use text_buffer::TextBuffer;
+use text_parts::append_words;
 
 /// Each byte as it stands in the name of a label: a letter, a digit or `_`, or `_` for another.
 static LABEL_BYTES: [u8; 256] = *b"\
@@ -32,18 +33,18 @@ static NAME_BYTES: [u8; 256] = *b"\
     ________________________________\
     ________________________________";
 
-/// Puts each byte as it stands in a name in an alphabet.
-fn clean(alphabet: Alphabet, bytes: &mut [u8])
-    ensures { bytes.new ≡ map (clean_byte (ends alphabet)) bytes.old }
+/// Puts each byte of a text as it stands in a name in an alphabet.
+fn clean(alphabet: Alphabet, text: &mut TextBuffer)
+    ensures { text.new.items ≡ map (clean_byte (ends alphabet)) text.old.items }
 {
     match alphabet {
-        Alphabet::Labels => translate(&LABEL_BYTES, bytes),
-        Alphabet::Samples => translate(&NAME_BYTES, bytes),
+        Alphabet::Labels => text.translate(0, &LABEL_BYTES),
+        Alphabet::Samples => text.translate(0, &NAME_BYTES),
     }
 }
 
 /// Appends the `_` that stands before a digit at the front of a text.
-fn append_mark(out: &mut Vec<u8>, text: &str) -> Result<(), OutOfMemory>
+fn append_mark(out: &mut TextBuffer, text: &str) -> Result<(), OutOfMemory>
     ensures { Adds result out.old.items out.new.items (digit_mark text.now) }
 {
     if begins_with_digit(text.as_bytes()) {
@@ -54,7 +55,7 @@ fn append_mark(out: &mut Vec<u8>, text: &str) -> Result<(), OutOfMemory>
 }
 
 /// Appends a measurement and the key of a field that isn't `value`.
-fn append_family_words(out: &mut Vec<u8>, name: &str, key: &str) -> Result<(), OutOfMemory>
+fn append_family_words(out: &mut TextBuffer, name: &str, key: &str) -> Result<(), OutOfMemory>
     ensures { Adds result out.old.items out.new.items (family_words name.now key.now) }
 {
     append_words(out, name)?;
@@ -70,22 +71,26 @@ fn append_family_words(out: &mut Vec<u8>, name: &str, key: &str) -> Result<(), O
 pub(crate) fn label_name(alloc: Global, key: &str) -> Result<Vec<u8>, OutOfMemory>
     ensures { IfOk result (λ name. name.items ≡ cleaned ends_label key.now) }
 {
-    let mut name = Vec::with_capacity(alloc, key.len().saturating_add(1))?;
+    let mut name = TextBuffer::with_room(alloc, key.len().saturating_add(1))?;
     append_mark(&mut name, key)?;
     append_words(&mut name, key)?;
     clean(Alphabet::Labels, &mut name);
-    Ok(name)
+    Ok(name.into_vec())
 }
 
 /// Puts each byte of a family as it stands in the name of a sample.
-fn clean_family(family: &mut Vec<u8>)
+fn clean_family(family: &mut TextBuffer)
     ensures { family.new.items ≡ map (clean_byte ends_name) family.old.items }
 {
     clean(Alphabet::Samples, family);
 }
 
 /// Writes the family of a field, in place of what stood there.
-pub(crate) fn write_family(family: &mut Vec<u8>, name: &str, key: &str) -> Result<(), OutOfMemory>
+pub(crate) fn write_family(
+    family: &mut TextBuffer,
+    name: &str,
+    key: &str,
+) -> Result<(), OutOfMemory>
     ensures { OnOk result (family.new.items ≡ family_of name.now key.now) }
 {
     family.clear();

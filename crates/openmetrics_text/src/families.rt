@@ -10,6 +10,7 @@ use crate::groups::{Group, Groups, SampleLine};
 use fixed_num::{Moment, OutOfMemory};
 use std::alloc::Global;
 use std::collections::BTreeMap;
+use text_buffer::TextBuffer;
 use text_parts::{append_bytes, append_words};
 
 /// Lines by their times.
@@ -36,7 +37,7 @@ fn lines_of<'a>(alloc: Global, samples: &[SampleLine<'a>]) -> Result<Lines<'a>, 
 }
 
 /// Appends lines.
-fn append_all(out: &mut Vec<u8>, lines: &Lines) -> Result<(), OutOfMemory>
+fn append_all(out: &mut TextBuffer, lines: &Lines) -> Result<(), OutOfMemory>
     ensures { Adds result out.old.items out.new.items (lines_text (lines_view lines.now)) }
 {
     for (_time, line) in lines.iter() {
@@ -48,7 +49,7 @@ fn append_all(out: &mut Vec<u8>, lines: &Lines) -> Result<(), OutOfMemory>
 /// Appends the lines of the samples of a series by their times. Most series of a batch have one.
 fn append_series(
     alloc: Global,
-    out: &mut Vec<u8>,
+    out: &mut TextBuffer,
     samples: &[SampleLine],
 ) -> Result<(), OutOfMemory>
     ensures { Adds result out.old.items out.new.items (series_text (map line_view samples.now)) }
@@ -73,7 +74,11 @@ fn series_of<'a>(alloc: Global, samples: &[SampleLine<'a>]) -> Result<Groups<'a>
 }
 
 /// Appends the lines of series.
-fn append_each_series(alloc: Global, out: &mut Vec<u8>, groups: &[Group]) -> Result<(), OutOfMemory>
+fn append_each_series(
+    alloc: Global,
+    out: &mut TextBuffer,
+    groups: &[Group],
+) -> Result<(), OutOfMemory>
     ensures { Adds result out.old.items out.new.items (flat_map series_group (map group_view groups.now)) }
 {
     for group in groups {
@@ -83,7 +88,7 @@ fn append_each_series(alloc: Global, out: &mut Vec<u8>, groups: &[Group]) -> Res
 }
 
 /// Appends the lines of a family, series by series. Most families have one sample.
-fn append_samples(alloc: Global, out: &mut Vec<u8>, family: &Group) -> Result<(), OutOfMemory>
+fn append_samples(alloc: Global, out: &mut TextBuffer, family: &Group) -> Result<(), OutOfMemory>
     ensures { Adds result out.old.items out.new.items (samples_text (group_view family.now).1) }
 {
     let samples = family.samples.as_slice();
@@ -96,7 +101,7 @@ fn append_samples(alloc: Global, out: &mut Vec<u8>, family: &Group) -> Result<()
 }
 
 /// Appends the line of a family's type.
-fn append_type(out: &mut Vec<u8>, name: &[u8]) -> Result<(), OutOfMemory>
+fn append_type(out: &mut TextBuffer, name: &[u8]) -> Result<(), OutOfMemory>
     ensures { Adds result out.old.items out.new.items (type_text name.now) }
 {
     append_words(out, "# TYPE ")?;
@@ -106,7 +111,7 @@ fn append_type(out: &mut Vec<u8>, name: &[u8]) -> Result<(), OutOfMemory>
 }
 
 /// Appends a family.
-fn append_family(alloc: Global, out: &mut Vec<u8>, group: &Group) -> Result<(), OutOfMemory>
+fn append_family(alloc: Global, out: &mut TextBuffer, group: &Group) -> Result<(), OutOfMemory>
     ensures { Adds result out.old.items out.new.items (family_group (group_view group.now)) }
 {
     append_type(out, group.key)?;
@@ -117,7 +122,7 @@ fn append_family(alloc: Global, out: &mut Vec<u8>, group: &Group) -> Result<(), 
 /// Appends families.
 pub(crate) fn append_families(
     alloc: Global,
-    out: &mut Vec<u8>,
+    out: &mut TextBuffer,
     groups: &[Group],
 ) -> Result<(), OutOfMemory>
     ensures { Adds result out.old.items out.new.items (flat_map family_group (map group_view groups.now)) }

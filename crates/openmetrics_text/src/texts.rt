@@ -8,6 +8,7 @@ ghost use Rattle.openmetrics_text.specs.Texts.{IsWithin, written_in};
 use crate::groups::{Groups, SampleLine};
 use fixed_num::{Moment, OutOfMemory};
 use std::alloc::Global;
+use text_buffer::TextBuffer;
 
 /// Where a text stands among others.
 #[derive(Clone, Copy, Debug)]
@@ -35,7 +36,7 @@ pub(crate) struct Row {
 #[derive(Debug, Drop)]
 pub(crate) struct Texts {
     /// The texts, one behind the other.
-    pub(crate) bytes: Vec<u8>,
+    pub(crate) bytes: TextBuffer,
     /// Where those of each sample stand.
     pub(crate) rows: Vec<Row>,
 }
@@ -46,7 +47,7 @@ impl Texts {
         ensures { result.rows.items ≡ [] }
     {
         Texts {
-            bytes: Vec::new(alloc),
+            bytes: TextBuffer::new(alloc),
             rows: Vec::new(alloc),
         }
     }

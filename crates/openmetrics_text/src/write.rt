@@ -16,6 +16,7 @@ use crate::texts::{Extent, Row, Texts, families_of};
 use fixed_num::{Fixed, Moment, OutOfMemory};
 use metric::{Metric, Text, Value};
 use std::alloc::Global;
+use text_buffer::TextBuffer;
 use text_parts::{append_bytes, append_words, settle};
 
 /// A time as seconds.
@@ -29,7 +30,7 @@ fn seconds_of(time: &Moment) -> Fixed
 }
 
 /// Appends a time as seconds.
-fn append_time(alloc: Global, out: &mut Vec<u8>, time: &Moment) -> Result<(), OutOfMemory>
+fn append_time(alloc: Global, out: &mut TextBuffer, time: &Moment) -> Result<(), OutOfMemory>
     ensures { Adds result out.old.items out.new.items (canonical_text time.now) }
 {
     seconds_of(time).append(alloc, out)?;
@@ -39,7 +40,7 @@ fn append_time(alloc: Global, out: &mut Vec<u8>, time: &Moment) -> Result<(), Ou
 /// Appends a number and a time.
 fn append_numbers(
     alloc: Global,
-    out: &mut Vec<u8>,
+    out: &mut TextBuffer,
     value: &Value,
     time: &Moment,
 ) -> Result<(), OutOfMemory>
@@ -53,7 +54,7 @@ fn append_numbers(
 }
 
 /// Appends the name and the labels of a sample, and a space.
-fn append_head(out: &mut Vec<u8>, family: &[u8], labels: &[u8]) -> Result<(), OutOfMemory>
+fn append_head(out: &mut TextBuffer, family: &[u8], labels: &[u8]) -> Result<(), OutOfMemory>
     ensures { Adds result out.old.items out.new.items (family.now ++ labels.now ++ codes " ") }
 {
     append_bytes(out, family)?;
@@ -65,7 +66,7 @@ fn append_head(out: &mut Vec<u8>, family: &[u8], labels: &[u8]) -> Result<(), Ou
 /// Appends the line of a sample, given the text of its labels.
 fn append_point(
     alloc: Global,
-    out: &mut Vec<u8>,
+    out: &mut TextBuffer,
     family: &[u8],
     labels: &[u8],
     value: &Value,
@@ -129,7 +130,7 @@ fn put_line(
 fn put_field(
     alloc: Global,
     texts: &mut Texts,
-    family: &mut Vec<u8>,
+    family: &mut TextBuffer,
     series: &Series,
     metric: &Metric,
     field: &(Text, Value),
@@ -150,7 +151,7 @@ fn put_field(
 fn put_fields(
     alloc: Global,
     texts: &mut Texts,
-    family: &mut Vec<u8>,
+    family: &mut TextBuffer,
     series: &Series,
     metric: &Metric,
     fields: &[(Text, Value)],
@@ -186,7 +187,7 @@ fn put_metric(
     alloc: Global,
     texts: &mut Texts,
     labels: &mut LabelTexts,
-    family: &mut Vec<u8>,
+    family: &mut TextBuffer,
     metric: &Metric,
 ) -> Result<(), OutOfMemory>
     ensures { OnOk result (Puts texts.old texts.new (points_of_metric metric.now)) }
@@ -206,7 +207,7 @@ fn texts_of(alloc: Global, batch: &[Metric]) -> Result<Texts, OutOfMemory>
 {
     let mut texts = Texts::new(alloc);
     let mut labels = LabelTexts::new(alloc);
-    let mut family = Vec::new(alloc);
+    let mut family = TextBuffer::new(alloc);
     for metric in batch {
         put_metric(alloc, &mut texts, &mut labels, &mut family, metric)?;
     }
@@ -214,7 +215,7 @@ fn texts_of(alloc: Global, batch: &[Metric]) -> Result<Texts, OutOfMemory>
 }
 
 /// Appends the exposition of a batch.
-fn append_batch(alloc: Global, batch: &[Metric], out: &mut Vec<u8>) -> Result<(), OutOfMemory>
+fn append_batch(alloc: Global, batch: &[Metric], out: &mut TextBuffer) -> Result<(), OutOfMemory>
     ensures { Adds result out.old.items out.new.items (batch_text batch.now) }
 {
     let texts = texts_of(alloc, batch)?;
@@ -234,7 +235,7 @@ fn append_batch(alloc: Global, batch: &[Metric], out: &mut Vec<u8>) -> Result<()
 /// series, the sets of labels with their values, in the order of their first samples; in a series its samples by time,
 /// of two with one time the last. A number is canonical, a truth value 1 or 0, a time its seconds since 1970. After
 /// OutOfMemory `out` is as before.
-pub fn write_batch(alloc: Global, batch: &[Metric], out: &mut Vec<u8>) -> Result<(), OutOfMemory>
+pub fn write_batch(alloc: Global, batch: &[Metric], out: &mut TextBuffer) -> Result<(), OutOfMemory>
     ensures ok { OnOk result (out.new.items ≡ out.old.items ++ batch_text batch.now) }
     ensures err { OnErr result (out.new.items ≡ out.old.items) }
 {

@@ -9,6 +9,7 @@ use fixed_num::OutOfMemory;
 use metric::{Text, Value};
 use std::alloc::Global;
 use std::str;
+use text_buffer::TextBuffer;
 
 /// The text of a value: a text as it stands, a number in its shortest decimal digits, `true` or `false`.
 pub(crate) fn text_of(alloc: Global, value: &Value) -> Result<Text, OutOfMemory>
@@ -28,7 +29,7 @@ fn number_text(alloc: Global, number: &Value) -> Result<Text, OutOfMemory>
     ensures { IfOk result (λ text. text ≡ number_text number.now) }
 {
     number.shows_value();
-    let mut digits = Vec::new(alloc);
+    let mut digits = TextBuffer::new(alloc);
     number.append_number(alloc, &mut digits)?;
     match str::from_utf8(digits.as_slice()) {
         Ok(text) => Text::of(alloc, text),

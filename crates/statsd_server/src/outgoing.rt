@@ -1,5 +1,5 @@
 //! Text that is given.
-ghost use Rattle.std.specs.Prelude.{◌≡◌, ◌≤◌, ◌<◌, ◌↔◌, ◌++◌, [], length, take, drop, vec_len, IsTrue};
+ghost use Rattle.std.specs.Prelude.{◌≡◌, ◌≤◌, ◌<◌, ◌↔◌, ◌++◌, [], length, take, drop, IsTrue};
 ghost use Rattle.std.specs.Prelude.{IfOk, OnOk, OnErr};
 ghost use Rattle.statsd_server.specs.Groups.{lines_text};
 
@@ -7,20 +7,21 @@ use fixed_num::OutOfMemory;
 use line_proto::write_untimed;
 use metric::Metric;
 use std::alloc::Global;
+use text_buffer::TextBuffer;
 
 /// Text that is to be given: what is written, from a place on, and behind it the lines of metrics, which aren't written
 /// yet.
 #[derive(Drop)]
 pub(crate) struct Outgoing {
     alloc: Global,
-    text: Vec<u8>,
+    text: TextBuffer,
     at: usize,
     metrics: Vec<Metric>,
-    ghost within: { at ≤ vec_len text },
+    ghost within: { at ≤ length text.items },
 }
 
 /// Appends the lines of metrics, without times.
-fn append_lines(alloc: Global, metrics: &[Metric], out: &mut Vec<u8>) -> Result<(), OutOfMemory>
+fn append_lines(alloc: Global, metrics: &[Metric], out: &mut TextBuffer) -> Result<(), OutOfMemory>
     ensures { OnOk result (out.new.items ≡ out.old.items ++ lines_text metrics.now) }
 {
     for metric in metrics {
@@ -50,7 +51,7 @@ impl Outgoing {
     {
         Outgoing {
             alloc,
-            text: Vec::new(alloc),
+            text: TextBuffer::new(alloc),
             at: 0,
             metrics: Vec::new(alloc),
         }
@@ -76,7 +77,7 @@ impl Outgoing {
     /// Writes the lines where no written text is left. The text stays.
     fn write(&mut self) -> Result<(), OutOfMemory>
         ensures same { text_in self.new ≡ text_in self.old }
-        ensures ready { OnOk result (self.new.at ≡ vec_len self.new.text → text_in self.new ≡ []) }
+        ensures ready { OnOk result (self.new.at ≡ length self.new.text.items → text_in self.new ≡ []) }
     {
         if self.at < self.text.len() {
             return Ok(());
@@ -99,9 +100,9 @@ impl Outgoing {
     fn hand_out(&mut self, buf: &mut [u8]) -> usize
         ensures room { result ≤ length buf.old }
         ensures given { text_in self.old ≡ take result buf.new ++ text_in self.new }
-        ensures some { result ≡ 0 → 0 < length buf.old → self.old.at ≡ vec_len self.old.text }
+        ensures some { result ≡ 0 → 0 < length buf.old → self.old.at ≡ length self.old.text.items }
     {
-        let count = copy_front(&self.text[self.at..], buf);
+        let count = copy_front(&self.text.as_slice()[self.at..], buf);
         self.at += count;
         count
     }

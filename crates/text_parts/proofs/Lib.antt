@@ -9,7 +9,6 @@ pub mod Escaping
 pub mod Splits
 pub mod Each
 pub mod WordTexts
-pub mod DigitLemmas
 pub mod Lacking
 pub mod Founds
 pub mod Stands

@@ -15,4 +15,3 @@ pub mod Escaped
 pub mod Marks
 pub mod Pairs
 pub mod Offsets
-pub mod Tables

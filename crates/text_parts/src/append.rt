@@ -5,9 +5,10 @@ ghost use Rattle.std.specs.Fmt.{signed_decimal};
 ghost use Rattle.text_parts.specs.Adds.{Adds};
 
 use fixed_num::OutOfMemory;
+use text_buffer::TextBuffer;
 
 /// Appends bytes.
-pub fn append_bytes(out: &mut Vec<u8>, bytes: &[u8]) -> Result<(), OutOfMemory>
+pub fn append_bytes(out: &mut TextBuffer, bytes: &[u8]) -> Result<(), OutOfMemory>
     ensures { Adds result out.old.items out.new.items bytes.now }
 {
     out.extend_from_slice(bytes)?;
@@ -15,7 +16,7 @@ pub fn append_bytes(out: &mut Vec<u8>, bytes: &[u8]) -> Result<(), OutOfMemory>
 }
 
 /// Appends words.
-pub fn append_words(out: &mut Vec<u8>, words: &str) -> Result<(), OutOfMemory>
+pub fn append_words(out: &mut TextBuffer, words: &str) -> Result<(), OutOfMemory>
     ensures { Adds result out.old.items out.new.items words.now }
 {
     out.extend_from_slice(words.as_bytes())?;
@@ -24,52 +25,42 @@ pub fn append_words(out: &mut Vec<u8>, words: &str) -> Result<(), OutOfMemory>
 
 /// Appends labels, each with a number, and an end.
 pub fn append_numbers(
-    out: &mut Vec<u8>,
+    out: &mut TextBuffer,
     counts: &[(&str, u64)],
     end: &str,
 ) -> Result<(), OutOfMemory>
     ensures { Adds result out.old.items out.new.items
         (flat_map (λ count. count.0.now ++ decimal count.1) counts.now ++ end.now) }
 {
-    let mut buffer = itoa::Buffer::new();
     for (label, n) in counts {
         out.extend_from_slice(label.as_bytes())?;
-        out.extend_from_slice(buffer.format(*n).as_bytes())?;
+        out.push_uint(*n)?;
     }
     out.extend_from_slice(end.as_bytes())?;
     Ok(())
 }
 
-/// How many digits a number of 64 bits has at most.
-const MOST_DIGITS: usize = 20;
-
-/// Appends a number in decimal digits. As many bytes are copied whatever the number, so that the copy has one size, and
-/// what stands behind the digits is cut off.
-#[inline(never)]
-pub fn append_uint(out: &mut Vec<u8>, n: u64) -> Result<(), OutOfMemory>
+/// Appends a number in decimal digits.
+#[inline(always)]
+pub fn append_uint(out: &mut TextBuffer, n: u64) -> Result<(), OutOfMemory>
     ensures { Adds result out.old.items out.new.items (decimal n) }
 {
-    let mut cells = [0; 2 * MOST_DIGITS];
-    let start = itoa::write_digits(n, &mut cells, MOST_DIGITS);
-    let end = out.len() + (MOST_DIGITS - start);
-    out.extend_from_slice(&cells[start..start + MOST_DIGITS])?;
-    out.truncate(end);
+    out.push_uint(n)?;
     Ok(())
 }
 
 /// Appends a number in decimal digits, with `-` before them where it is negative.
-pub fn append_int(out: &mut Vec<u8>, n: &i64) -> Result<(), OutOfMemory>
+#[inline(always)]
+pub fn append_int(out: &mut TextBuffer, n: &i64) -> Result<(), OutOfMemory>
     ensures { Adds result out.old.items out.new.items (signed_decimal n.now) }
 {
-    if *n < 0 {
-        out.push(b'-')?;
-    }
-    append_uint(out, n.unsigned_abs())
+    out.push_int(*n)?;
+    Ok(())
 }
 
 /// Appends words and a number.
 #[inline(always)]
-pub fn append_unsigned(out: &mut Vec<u8>, words: &str, n: u64) -> Result<(), OutOfMemory>
+pub fn append_unsigned(out: &mut TextBuffer, words: &str, n: u64) -> Result<(), OutOfMemory>
     ensures { Adds result out.old.items out.new.items (words.now ++ decimal n) }
 {
     append_words(out, words)?;
@@ -79,7 +70,7 @@ pub fn append_unsigned(out: &mut Vec<u8>, words: &str, n: u64) -> Result<(), Out
 
 /// Appends words, a number and a newline.
 #[inline(always)]
-pub fn append_line(out: &mut Vec<u8>, words: &str, n: u64) -> Result<(), OutOfMemory>
+pub fn append_line(out: &mut TextBuffer, words: &str, n: u64) -> Result<(), OutOfMemory>
     ensures { Adds result out.old.items out.new.items (words.now ++ decimal n ++ codes "\n") }
 {
     append_words(out, words)?;
@@ -90,7 +81,7 @@ pub fn append_line(out: &mut Vec<u8>, words: &str, n: u64) -> Result<(), OutOfMe
 
 /// Appends words and a number that may be negative.
 #[inline(always)]
-pub fn append_signed(out: &mut Vec<u8>, words: &str, n: &i64) -> Result<(), OutOfMemory>
+pub fn append_signed(out: &mut TextBuffer, words: &str, n: &i64) -> Result<(), OutOfMemory>
     ensures { Adds result out.old.items out.new.items (words.now ++ signed_decimal n.now) }
 {
     append_words(out, words)?;
@@ -101,7 +92,7 @@ pub fn append_signed(out: &mut Vec<u8>, words: &str, n: &i64) -> Result<(), OutO
 /// Ends a writing, given the length that the text had before it: where memory was wanting the text is cut
 /// back to that length, and so is as before. Gives what was given.
 pub fn settle(
-    out: &mut Vec<u8>,
+    out: &mut TextBuffer,
     len: usize,
     written: Result<(), OutOfMemory>,
 ) -> Result<(), OutOfMemory>

@@ -7,6 +7,7 @@ ghost use Rattle.text_parts.specs.Marks.{escapes_of};
 
 use crate::append::append_bytes;
 use fixed_num::OutOfMemory;
+use text_buffer::TextBuffer;
 
 /// What is escaped in a text that is written. Where there are fewer than three such bytes, one of them is written
 /// again.
@@ -47,7 +48,7 @@ impl Marks {
 }
 
 /// Appends a byte, behind a backslash where it is a mark.
-pub fn append_escaped_byte(out: &mut Vec<u8>, marks: &Marks, byte: u8) -> Result<(), OutOfMemory>
+pub fn append_escaped_byte(out: &mut TextBuffer, marks: &Marks, byte: u8) -> Result<(), OutOfMemory>
     ensures { Adds result out.old.items out.new.items (escaped_byte (escapes_of marks.now) byte) }
 {
     if marks.contain(byte) {
@@ -60,7 +61,7 @@ pub fn append_escaped_byte(out: &mut Vec<u8>, marks: &Marks, byte: u8) -> Result
 }
 
 /// Appends a text with its marks escaped. A text without marks is copied whole.
-pub fn append_escaped(out: &mut Vec<u8>, marks: &Marks, text: &[u8]) -> Result<(), OutOfMemory>
+pub fn append_escaped(out: &mut TextBuffer, marks: &Marks, text: &[u8]) -> Result<(), OutOfMemory>
     ensures { Adds result out.old.items out.new.items (escaped (escapes_of marks.now) text.now) }
 {
     if marks.are_none_of(text) {

@@ -1,6 +1,5 @@
 //! What readers and writers of text formats share: parts that end before given bytes, with escapes, parts
-//! between separators, words between spaces, the chain of first faults and its answer, writing by appending, and bytes
-//! by a table.
+//! between separators, words between spaces, the chain of first faults and its answer, and writing by appending.
 #![tactic(auto)]
 
 mod append;
@@ -12,7 +11,6 @@ mod reading;
 mod span;
 mod split;
 mod stops;
-mod table;
 mod words;
 
 pub use append::{
@@ -29,5 +27,4 @@ pub use reading::{answer, utf8_text};
 pub use span::{Span, span_at, span_text};
 pub use split::{Placed, Separated, first_part};
 pub use stops::first_of;
-pub use table::translate;
 pub use words::Words;

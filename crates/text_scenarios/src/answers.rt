@@ -1,4 +1,5 @@
 //! Which call a piece is put to.
+use crate::buffers::append_buffered;
 use crate::chains::append_chained;
 use crate::changes::{append_changed, append_series};
 use crate::configurations::{append_configuration, append_interval};
@@ -23,6 +24,7 @@ use scenario_tables::Row;
 use std::alloc::Global;
 use std::str;
 use std::test::Fail;
+use text_buffer::TextBuffer;
 
 /// Appends what comes of a piece, each line with its newline. The key says which call it is put to.
 pub fn answer(
@@ -30,7 +32,7 @@ pub fn answer(
     row: &Row,
     key: &str,
     piece: &[u8],
-    out: &mut Vec<u8>,
+    out: &mut TextBuffer,
 ) -> Result<(), Fail> {
     match key {
         "influx" => append_influx(alloc, piece, out),
@@ -54,7 +56,7 @@ fn answer_text(
     row: &Row,
     key: &str,
     piece: &str,
-    out: &mut Vec<u8>,
+    out: &mut TextBuffer,
 ) -> Result<(), Fail> {
     match key {
         "templates" => append_template(alloc, piece, out),
@@ -83,6 +85,7 @@ fn answer_text(
         "separated" => append_separated(piece, out),
         "cut" => append_cut(piece, out),
         "words" => append_offsets(piece, out),
+        "buffered" => append_buffered(alloc, piece, out),
         "grown" => append_text(alloc, piece, out),
         "labels_written" => append_written_label(piece, out),
         _ => Err(Fail::new(format_args!("no call for {key}"))),

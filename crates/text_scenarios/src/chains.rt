@@ -12,6 +12,7 @@ use proc_regex::Rewrite;
 use scenario_tables::Row;
 use std::alloc::Global;
 use std::test::Fail;
+use text_buffer::TextBuffer;
 
 /// The filter that lets names pass by some globs, and excludes fields by others.
 fn filter_by(alloc: Global, namepass: Vec<Glob>, fieldexclude: Vec<Glob>) -> Filter {
@@ -102,7 +103,7 @@ pub fn append_chained(
     alloc: Global,
     row: &Row,
     lines: &str,
-    out: &mut Vec<u8>,
+    out: &mut TextBuffer,
 ) -> Result<(), Fail> {
     let steps = steps_of(alloc, setting(alloc, row, "steps")?.as_str())?;
     let mut chain = Chain::new(alloc, steps.as_slice())?;

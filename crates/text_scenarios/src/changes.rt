@@ -7,6 +7,7 @@ use metric::{Metric, Part, Series, Value};
 use std::alloc::Global;
 use std::hash::{DefaultHasher, Hash, Hasher};
 use std::test::Fail;
+use text_buffer::TextBuffer;
 
 /// Sets a part of a metric: the name to the value, or a tag or a field of the key, which takes a whole number.
 fn set_part(
@@ -37,7 +38,12 @@ fn drop_part(alloc: Global, metric: &mut Metric, part: Part, key: &str) -> Resul
 }
 
 /// Changes a metric as a line says, and appends what a drop answers.
-fn change(alloc: Global, metric: &mut Metric, line: &str, out: &mut Vec<u8>) -> Result<(), Fail> {
+fn change(
+    alloc: Global,
+    metric: &mut Metric,
+    line: &str,
+    out: &mut TextBuffer,
+) -> Result<(), Fail> {
     let (verb, words) = cut(line, " ")?;
     let (word, key) = cut(words, " ")?;
     let part = part_of(word)?;
@@ -54,7 +60,7 @@ fn append_after(
     alloc: Global,
     metric: &mut Metric,
     changes: &str,
-    out: &mut Vec<u8>,
+    out: &mut TextBuffer,
 ) -> Result<(), Fail> {
     for line in changes.lines() {
         change(alloc, metric, line, out)?;
@@ -70,7 +76,7 @@ fn metric_of(alloc: Global, line: &str) -> Result<Metric, Fail> {
 
 /// Appends what is left of the metric of the first line after the changes of the others: where nothing shares its
 /// content, and where a copy does, with the copy behind it.
-pub fn append_changed(alloc: Global, text: &str, out: &mut Vec<u8>) -> Result<(), Fail> {
+pub fn append_changed(alloc: Global, text: &str, out: &mut TextBuffer) -> Result<(), Fail> {
     let (line, changes) = cut(text, "\n")?;
     let mut alone = metric_of(alloc, line)?;
     append_after(alloc, &mut alone, changes, out)?;
@@ -89,7 +95,7 @@ fn hash_of(series: &Series) -> u64 {
 }
 
 /// Appends how the series of two metrics compare: whether they are equal and hashed alike, and their order.
-pub fn append_series(alloc: Global, lines: &str, out: &mut Vec<u8>) -> Result<(), Fail> {
+pub fn append_series(alloc: Global, lines: &str, out: &mut TextBuffer) -> Result<(), Fail> {
     let metrics = metrics_of(alloc, lines)?;
     let [first, second] = metrics.as_slice() else {
         return Err(Fail::new("no two metrics"));

@@ -6,6 +6,7 @@ use proc_chain::StepWork;
 use scenario_tables::Row;
 use std::alloc::Global;
 use std::test::Fail;
+use text_buffer::TextBuffer;
 
 /// The configuration of a row.
 pub fn config_of(alloc: Global, row: &Row) -> Result<Config, Fail> {
@@ -17,13 +18,13 @@ pub fn config_of(alloc: Global, row: &Row) -> Result<Config, Fail> {
 }
 
 /// Appends the first fault of a configuration.
-fn append_first(fault: &ConfigFault, out: &mut Vec<u8>) -> Result<(), Fail> {
+fn append_first(fault: &ConfigFault, out: &mut TextBuffer) -> Result<(), Fail> {
     let (kind, class, number) = (fault.kind, fault.class, fault.number);
     put(out, format_args!("{kind:?} {class:?} {number}\n"))
 }
 
 /// Appends the values of a configuration, or its first fault.
-pub fn append_configuration(alloc: Global, text: &[u8], out: &mut Vec<u8>) -> Result<(), Fail> {
+pub fn append_configuration(alloc: Global, text: &[u8], out: &mut TextBuffer) -> Result<(), Fail> {
     match read_config(alloc, text) {
         Ok(config) => append_values(&config, out),
         Err(fault) => append_first(&fault, out),
@@ -31,7 +32,7 @@ pub fn append_configuration(alloc: Global, text: &[u8], out: &mut Vec<u8>) -> Re
 }
 
 /// Appends the nanoseconds between two flushes, or the first fault.
-pub fn append_interval(alloc: Global, text: &[u8], out: &mut Vec<u8>) -> Result<(), Fail> {
+pub fn append_interval(alloc: Global, text: &[u8], out: &mut TextBuffer) -> Result<(), Fail> {
     match read_config(alloc, text) {
         Ok(config) => put(out, format_args!("{}\n", config.agent.flush_interval)),
         Err(fault) => append_first(&fault, out),
@@ -40,7 +41,7 @@ pub fn append_interval(alloc: Global, text: &[u8], out: &mut Vec<u8>) -> Result<
 
 /// Appends the values of a configuration, with a line for the agent, each global tag, each input, each step, each aggregator
 /// and each output.
-fn append_values(config: &Config, out: &mut Vec<u8>) -> Result<(), Fail> {
+fn append_values(config: &Config, out: &mut TextBuffer) -> Result<(), Fail> {
     append_agent(&config.agent, out)?;
     for (key, value) in config.globals.as_slice() {
         put(
@@ -64,7 +65,7 @@ fn append_values(config: &Config, out: &mut Vec<u8>) -> Result<(), Fail> {
 }
 
 /// Appends what holds for the whole run.
-fn append_agent(agent: &AgentConf, out: &mut Vec<u8>) -> Result<(), Fail> {
+fn append_agent(agent: &AgentConf, out: &mut TextBuffer) -> Result<(), Fail> {
     put(
         out,
         format_args!("agent: gather_pieces {}, ", agent.gather_pieces),
@@ -79,7 +80,7 @@ fn append_agent(agent: &AgentConf, out: &mut Vec<u8>) -> Result<(), Fail> {
 }
 
 /// Appends what an input is, with its format; that it is tracked, where it is.
-fn append_input(input: &InputConf, out: &mut Vec<u8>) -> Result<(), Fail> {
+fn append_input(input: &InputConf, out: &mut TextBuffer) -> Result<(), Fail> {
     let (place, groups) = (input.place.as_str(), input.max_undelivered);
     let tracked = if input.tracked { "tracked, " } else { "" };
     put(
@@ -112,7 +113,7 @@ fn append_input(input: &InputConf, out: &mut Vec<u8>) -> Result<(), Fail> {
 }
 
 /// Appends what a step does.
-fn append_step(work: &StepWork, out: &mut Vec<u8>) -> Result<(), Fail> {
+fn append_step(work: &StepWork, out: &mut TextBuffer) -> Result<(), Fail> {
     match work {
         StepWork::Rename(_) => put(out, "step rename\n"),
         StepWork::Convert(_) => put(out, "step convert\n"),
@@ -125,7 +126,7 @@ fn append_step(work: &StepWork, out: &mut Vec<u8>) -> Result<(), Fail> {
 }
 
 /// Appends what an aggregator is.
-fn append_aggregator(agg: &AggConf, out: &mut Vec<u8>) -> Result<(), Fail> {
+fn append_aggregator(agg: &AggConf, out: &mut TextBuffer) -> Result<(), Fail> {
     let line = &agg.line;
     put(out, format_args!("aggregator {:?}, ", line.kind))?;
     put(
@@ -139,7 +140,7 @@ fn append_aggregator(agg: &AggConf, out: &mut Vec<u8>) -> Result<(), Fail> {
 }
 
 /// Appends what an output is, with its format.
-fn append_output(output: &OutputConf, out: &mut Vec<u8>) -> Result<(), Fail> {
+fn append_output(output: &OutputConf, out: &mut TextBuffer) -> Result<(), Fail> {
     let (place, batch, limit) = (output.place.as_str(), output.batch, output.limit);
     put(
         out,

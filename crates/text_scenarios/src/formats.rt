@@ -12,9 +12,10 @@ use statsd_text::{LineSaid, part_tags, read_said};
 use std::alloc::Global;
 use std::fmt::Debug;
 use std::test::Fail;
+use text_buffer::TextBuffer;
 
 /// Appends the lines of metrics in line protocol.
-fn append_metrics(alloc: Global, metrics: &[Metric], out: &mut Vec<u8>) -> Result<(), Fail> {
+fn append_metrics(alloc: Global, metrics: &[Metric], out: &mut TextBuffer) -> Result<(), Fail> {
     for metric in metrics {
         write_line(alloc, metric, out)?;
     }
@@ -22,12 +23,12 @@ fn append_metrics(alloc: Global, metrics: &[Metric], out: &mut Vec<u8>) -> Resul
 }
 
 /// Appends the kind of a fault, and its offset.
-fn append_fault<K: Debug + Drop>(kind: K, offset: usize, out: &mut Vec<u8>) -> Result<(), Fail> {
+fn append_fault<K: Debug + Drop>(kind: K, offset: usize, out: &mut TextBuffer) -> Result<(), Fail> {
     put(out, format_args!("{kind:?} {offset}\n"))
 }
 
 /// Appends what a piece of line protocol is read as, at the moment 7.
-pub fn append_influx(alloc: Global, piece: &[u8], out: &mut Vec<u8>) -> Result<(), Fail> {
+pub fn append_influx(alloc: Global, piece: &[u8], out: &mut TextBuffer) -> Result<(), Fail> {
     match line_proto::read_line(alloc, piece, 7) {
         Ok(Some(metric)) => write_line(alloc, &metric, out)?,
         Ok(None) => put(out, "none\n")?,
@@ -37,7 +38,7 @@ pub fn append_influx(alloc: Global, piece: &[u8], out: &mut Vec<u8>) -> Result<(
 }
 
 /// Appends what a line of StatsD is read as, at the moment 50.
-pub fn append_statsd(alloc: Global, piece: &[u8], out: &mut Vec<u8>) -> Result<(), Fail> {
+pub fn append_statsd(alloc: Global, piece: &[u8], out: &mut TextBuffer) -> Result<(), Fail> {
     match statsd_text::read_line(alloc, piece, 50) {
         Ok(metrics) => append_metrics(alloc, metrics.as_slice(), out)?,
         Err(fault) => append_fault(fault.kind, fault.offset, out)?,
@@ -46,7 +47,7 @@ pub fn append_statsd(alloc: Global, piece: &[u8], out: &mut Vec<u8>) -> Result<(
 }
 
 /// Appends the metrics at the moment 50 that are made of what the parts of a line say.
-fn append_line(alloc: Global, line: &LineSaid, out: &mut Vec<u8>) -> Result<(), Fail>
+fn append_line(alloc: Global, line: &LineSaid, out: &mut TextBuffer) -> Result<(), Fail>
     requires { IsWholeLine line.now }
 {
     for said in line.said.as_slice() {
@@ -62,7 +63,7 @@ fn append_line(alloc: Global, line: &LineSaid, out: &mut Vec<u8>) -> Result<(), 
 }
 
 /// Appends what a line of StatsD says, before metrics are made of it, as metrics that are made of that here.
-pub fn append_said(alloc: Global, piece: &[u8], out: &mut Vec<u8>) -> Result<(), Fail> {
+pub fn append_said(alloc: Global, piece: &[u8], out: &mut TextBuffer) -> Result<(), Fail> {
     match read_said(alloc, piece) {
         Ok(Some(line)) => append_line(alloc, &line, out)?,
         Ok(None) => put(out, "not said\n")?,
@@ -73,7 +74,7 @@ pub fn append_said(alloc: Global, piece: &[u8], out: &mut Vec<u8>) -> Result<(),
 
 /// Appends how many samples of an exposition are passed over, and how many of these are out of range, where there are
 /// such.
-fn append_passed(exposition: &Exposition, out: &mut Vec<u8>) -> Result<(), Fail> {
+fn append_passed(exposition: &Exposition, out: &mut TextBuffer) -> Result<(), Fail> {
     let (passed, out_of_range) = (exposition.passed, exposition.out_of_range);
     if out_of_range == 0 {
         return put(out, format_args!("passed {passed}\n"));
@@ -90,7 +91,7 @@ pub fn append_exposition(
     alloc: Global,
     row: &Row,
     piece: &[u8],
-    out: &mut Vec<u8>,
+    out: &mut TextBuffer,
 ) -> Result<(), Fail> {
     let type_tag = row.part("type_tag").is_some();
     let passing = row.part("pass_out_of_range").is_some();
@@ -105,7 +106,7 @@ pub fn append_exposition(
 }
 
 /// Appends whether a text is a template of Graphite.
-pub fn append_template(alloc: Global, text: &str, out: &mut Vec<u8>) -> Result<(), Fail> {
+pub fn append_template(alloc: Global, text: &str, out: &mut TextBuffer) -> Result<(), Fail> {
     match Template::read(alloc, text) {
         Ok(_) => put(out, "template\n"),
         Err(fault) => put(out, format_args!("{fault:?}\n")),
@@ -127,7 +128,7 @@ pub fn append_graphite(
     alloc: Global,
     row: &Row,
     piece: &[u8],
-    out: &mut Vec<u8>,
+    out: &mut TextBuffer,
 ) -> Result<(), Fail> {
     let is_counted = row.part("counted").is_some();
     let Some(part) = row.part("separator") else {
@@ -149,7 +150,7 @@ fn append_configured(
     alloc: Global,
     row: &Row,
     piece: &[u8],
-    out: &mut Vec<u8>,
+    out: &mut TextBuffer,
 ) -> Result<(), Fail> {
     let config = config_of(alloc, row)?;
     for input in config.inputs.as_slice() {
@@ -170,7 +171,7 @@ fn append_counted(
     alloc: Global,
     metric: &Metric,
     is_counted: bool,
-    out: &mut Vec<u8>,
+    out: &mut TextBuffer,
 ) -> Result<(), Fail> {
     if is_counted {
         return put(out, format_args!("tags {}\n", metric.tags().len()));
@@ -187,7 +188,7 @@ fn append_graphite_line(
     separator: &str,
     piece: &[u8],
     is_counted: bool,
-    out: &mut Vec<u8>,
+    out: &mut TextBuffer,
 ) -> Result<(), Fail> {
     match graphite_text::read_line(alloc, templates, separator, piece, 50) {
         Ok(Some(metric)) => append_counted(alloc, &metric, is_counted, out),

@@ -5,6 +5,7 @@
 #![tactic(auto)]
 
 mod answers;
+mod buffers;
 mod chains;
 mod changes;
 mod configurations;
@@ -20,11 +21,13 @@ use answers::answer;
 use pieces::whole;
 use scenario_tables::{Row, Table, Tally};
 use std::test::Fail;
+use text_buffer::TextBuffer;
 
 /// The tables, each a file in `data/`.
 const TABLES: &str =
-    "numbers lists text_parts metrics changes globs filters processors influx_read influx_written statsd_read \
-    graphite_read graphite_templates graphite_written openmetrics_read openmetrics_written configurations times";
+    "numbers lists buffers text_parts metrics changes globs filters processors influx_read influx_written \
+    statsd_read graphite_read graphite_templates graphite_written openmetrics_read openmetrics_written \
+    configurations times";
 
 /// Compares what comes of each piece of a row.
 fn compare(rt: &HostRuntime, tally: &mut Tally, row: &Row) -> Result<(), Fail> {
@@ -34,9 +37,9 @@ fn compare(rt: &HostRuntime, tally: &mut Tally, row: &Row) -> Result<(), Fail> {
     };
     for piece in &part.pieces(alloc)? {
         let text = whole(alloc, row, part, piece.text.as_slice())?;
-        let mut is = Vec::new(alloc);
+        let mut is = TextBuffer::new(alloc);
         answer(alloc, row, part.key, text.as_slice(), &mut is)?;
-        is.pop();
+        is.truncate(is.len().saturating_sub(1));
         let (wanted, is) = (piece.wanted.as_slice(), is.as_slice());
         tally.compare(rt, row.name, wanted, is)?;
     }

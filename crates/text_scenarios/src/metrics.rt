@@ -8,6 +8,7 @@ use metric::{Builder, Glob, Metric, Text, Value, are_filled};
 use scenario_tables::Row;
 use std::alloc::Global;
 use std::test::Fail;
+use text_buffer::TextBuffer;
 
 /// A whole number, or a number of so many billionths.
 fn number_of(kind: &str, number: i64) -> Result<Value, Fail> {
@@ -48,7 +49,12 @@ pub fn built(alloc: Global, text: &str, between: &str) -> Result<(Builder, i64),
 }
 
 /// Appends how a metric that lines say compares with its copy and with another.
-pub fn append_metric(alloc: Global, row: &Row, text: &str, out: &mut Vec<u8>) -> Result<(), Fail> {
+pub fn append_metric(
+    alloc: Global,
+    row: &Row,
+    text: &str,
+    out: &mut TextBuffer,
+) -> Result<(), Fail> {
     let (builder, time) = built(alloc, text, "\n")?;
     let (tags, fields) = (builder.tag_count(), builder.field_count());
     put(out, format_args!("tags {tags}, fields {fields}\n"))?;
@@ -76,14 +82,19 @@ fn tags_of(alloc: Global, lines: &str) -> Result<Seq<(Text, Text)>, Fail> {
 }
 
 /// Appends whether two metrics are equal, and whether they are the same.
-fn append_same(name: &str, metric: &Metric, other: &Metric, out: &mut Vec<u8>) -> Result<(), Fail> {
+fn append_same(
+    name: &str,
+    metric: &Metric,
+    other: &Metric,
+    out: &mut TextBuffer,
+) -> Result<(), Fail> {
     let (equal, same) = (metric == other, metric.same_as(other));
     put(out, format_args!("{name}: equal {equal}, same {same}\n"))
 }
 
 /// Appends the line of a metric with the tags that the row gives it, and how it compares with its copy; the values of
 /// the tags that the row asks for, and how the metric compares with another one where the row has it.
-fn append_seen(alloc: Global, row: &Row, metric: Metric, out: &mut Vec<u8>) -> Result<(), Fail> {
+fn append_seen(alloc: Global, row: &Row, metric: Metric, out: &mut TextBuffer) -> Result<(), Fail> {
     let given = tags_of(alloc, setting(alloc, row, "given")?.as_str())?;
     if !are_filled(given.as_slice()) {
         return Err(Fail::new("an empty tag is given"));
@@ -103,7 +114,7 @@ fn append_seen(alloc: Global, row: &Row, metric: Metric, out: &mut Vec<u8>) -> R
 }
 
 /// Appends whether a glob matches a text, with a bar between them, or why it is none.
-pub fn append_glob(alloc: Global, text: &str, out: &mut Vec<u8>) -> Result<(), Fail> {
+pub fn append_glob(alloc: Global, text: &str, out: &mut TextBuffer) -> Result<(), Fail> {
     let (glob, text) = cut(text, "|")?;
     match Glob::read(alloc, glob) {
         Ok(glob) if glob.matches(text) => put(out, "matches\n"),
@@ -117,7 +128,7 @@ pub fn append_filtered(
     alloc: Global,
     row: &Row,
     lines: &str,
-    out: &mut Vec<u8>,
+    out: &mut TextBuffer,
 ) -> Result<(), Fail> {
     let metrics = metrics_of(alloc, lines)?;
     let config = config_of(alloc, row)?;
@@ -132,9 +143,9 @@ pub fn append_filtered(
 }
 
 /// Appends what the tests of fields and tags of the row's inputs leave of metrics, whether or not they pass.
-pub fn append_left(alloc: Global, row: &Row, lines: &str, out: &mut Vec<u8>) -> Result<(), Fail> {
-    let metrics = metrics_of(alloc, lines)?;
+pub fn append_left(alloc: Global, row: &Row, text: &str, out: &mut TextBuffer) -> Result<(), Fail> {
     let config = config_of(alloc, row)?;
+    let metrics = metrics_of(alloc, text)?;
     for input in config.inputs.as_slice() {
         for metric in &metrics {
             if let Some(kept) = input.filter.left_of(metric.copy()?)? {

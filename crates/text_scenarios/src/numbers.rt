@@ -4,16 +4,17 @@ use fixed_num::{Fixed, NumFault, OutOfMemory, Seq};
 use std::alloc::Global;
 use std::fmt::Display;
 use std::test::Fail;
+use text_buffer::TextBuffer;
 
 /// Appends the canonical text of a number, and a newline.
-fn append_number(alloc: Global, number: Fixed, out: &mut Vec<u8>) -> Result<(), Fail> {
+fn append_number(alloc: Global, number: Fixed, out: &mut TextBuffer) -> Result<(), Fail> {
     number.append(alloc, out)?;
     out.push(b'\n')?;
     Ok(())
 }
 
 /// Appends the decimal that a text spells, or its fault.
-pub fn append_decimal(alloc: Global, text: &[u8], out: &mut Vec<u8>) -> Result<(), Fail> {
+pub fn append_decimal(alloc: Global, text: &[u8], out: &mut TextBuffer) -> Result<(), Fail> {
     match Fixed::read(text) {
         Ok(number) => append_number(alloc, number, out),
         Err(fault) => put(out, format_args!("{fault:?}\n")),
@@ -33,7 +34,7 @@ fn two_numbers(text: &str, mark: &str) -> Result<(Fixed, Fixed), Fail> {
 }
 
 /// Appends a number, or `none`.
-fn append_maybe(alloc: Global, number: Option<Fixed>, out: &mut Vec<u8>) -> Result<(), Fail> {
+fn append_maybe(alloc: Global, number: Option<Fixed>, out: &mut TextBuffer) -> Result<(), Fail> {
     match number {
         Some(number) => append_number(alloc, number, out),
         None => put(out, "none\n"),
@@ -41,13 +42,13 @@ fn append_maybe(alloc: Global, number: Option<Fixed>, out: &mut Vec<u8>) -> Resu
 }
 
 /// Appends the quotient of two decimals with ` / ` between them; `none` where there is none.
-pub fn append_quotient(alloc: Global, text: &str, out: &mut Vec<u8>) -> Result<(), Fail> {
+pub fn append_quotient(alloc: Global, text: &str, out: &mut TextBuffer) -> Result<(), Fail> {
     let (number, by) = two_numbers(text, " / ")?;
     append_maybe(alloc, number.divide(by), out)
 }
 
 /// Appends the sum of two decimals with ` + ` between them; `none` where it is out of range.
-pub fn append_sum(alloc: Global, text: &str, out: &mut Vec<u8>) -> Result<(), Fail> {
+pub fn append_sum(alloc: Global, text: &str, out: &mut TextBuffer) -> Result<(), Fail> {
     let (first, second) = two_numbers(text, " + ")?;
     append_maybe(alloc, first.add(second), out)
 }
@@ -55,7 +56,7 @@ pub fn append_sum(alloc: Global, text: &str, out: &mut Vec<u8>) -> Result<(), Fa
 /// Appends the whole number that was read, or its fault.
 pub fn append_whole<N: Display + Drop>(
     read: Result<N, NumFault>,
-    out: &mut Vec<u8>,
+    out: &mut TextBuffer,
 ) -> Result<(), Fail> {
     match read {
         Ok(number) => put(out, format_args!("{number}\n")),
@@ -81,7 +82,7 @@ fn grown(alloc: Global, room: usize) -> Result<Seq<u32>, OutOfMemory> {
 }
 
 /// Appends the only element of a list, where it stands in place, or the list as it was.
-fn append_only(list: Seq<u32>, out: &mut Vec<u8>) -> Result<(), Fail> {
+fn append_only(list: Seq<u32>, out: &mut TextBuffer) -> Result<(), Fail> {
     match list.into_one() {
         Ok(element) => put(out, format_args!("one {element}\n")),
         Err(list) => put(out, format_args!("several {:?}\n", list.as_slice())),
@@ -89,7 +90,7 @@ fn append_only(list: Seq<u32>, out: &mut Vec<u8>) -> Result<(), Fail> {
 }
 
 /// Appends what a list with room for so many is: as a slice, as a vector, and its only element.
-pub fn append_grown(alloc: Global, room: &str, out: &mut Vec<u8>) -> Result<(), Fail> {
+pub fn append_grown(alloc: Global, room: &str, out: &mut TextBuffer) -> Result<(), Fail> {
     let room = room.parse()?;
     let list = grown(alloc, room)?;
     put(out, format_args!("slice {:?}\n", list.as_slice()))?;
@@ -98,7 +99,7 @@ pub fn append_grown(alloc: Global, room: &str, out: &mut Vec<u8>) -> Result<(), 
 }
 
 /// Appends what a list of one element is: as a vector, and its only element.
-pub fn append_one(alloc: Global, element: &str, out: &mut Vec<u8>) -> Result<(), Fail> {
+pub fn append_one(alloc: Global, element: &str, out: &mut TextBuffer) -> Result<(), Fail> {
     let element = element.parse()?;
     let list = Seq::of_one(element).into_vec(alloc)?;
     put(out, format_args!("vector {list:?}\n"))?;
@@ -115,7 +116,7 @@ fn without(alloc: Global, mut list: Seq<u32>, at: usize) -> Seq<u32> {
 
 /// Appends what is left of the list with room for so many without its second element, and of one of one element
 /// without that.
-pub fn append_left_of(alloc: Global, room: &str, out: &mut Vec<u8>) -> Result<(), Fail> {
+pub fn append_left_of(alloc: Global, room: &str, out: &mut TextBuffer) -> Result<(), Fail> {
     let list = without(alloc, grown(alloc, room.parse()?)?, 1);
     put(out, format_args!("{:?}\n", list.as_slice()))?;
     let one = without(alloc, Seq::of_one(5), 0);

@@ -4,6 +4,7 @@ use fixed_num::OutOfMemory;
 use std::alloc::Global;
 use std::str;
 use std::test::Fail;
+use text_buffer::TextBuffer;
 use text_parts::{
     Marks, Part, Placed, Separated, Words, append_bytes, append_escaped, append_escaped_byte,
     append_line, append_numbers, append_signed, append_unsigned, append_words, first_part,
@@ -28,7 +29,12 @@ pub const LABEL: Part = Part {
 const OFFSET: usize = 3;
 
 /// Appends how many bytes the part at the front of a text has, and what it says.
-pub fn append_part(alloc: Global, part: &Part, text: &[u8], out: &mut Vec<u8>) -> Result<(), Fail> {
+pub fn append_part(
+    alloc: Global,
+    part: &Part,
+    text: &[u8],
+    out: &mut TextBuffer,
+) -> Result<(), Fail> {
     let len = part_len(part, text);
     let plain = plain_bytes(alloc, part, &text[..len])?;
     let plain = str::from_utf8(plain.as_slice())?;
@@ -36,7 +42,7 @@ pub fn append_part(alloc: Global, part: &Part, text: &[u8], out: &mut Vec<u8>) -
 }
 
 /// Appends what a key at the front of a text says, as bytes and as a text.
-pub fn append_key(alloc: Global, text: &str, out: &mut Vec<u8>) -> Result<(), Fail> {
+pub fn append_key(alloc: Global, text: &str, out: &mut TextBuffer) -> Result<(), Fail> {
     append_part(alloc, &KEY, text.as_bytes(), out)?;
     if text.is_char_boundary(0) {
         let text = part_text(alloc, &KEY, text, 0)?;
@@ -46,7 +52,7 @@ pub fn append_key(alloc: Global, text: &str, out: &mut Vec<u8>) -> Result<(), Fa
 }
 
 /// Appends the parts between the commas of a text, each with its offset.
-pub fn append_separated(text: &str, out: &mut Vec<u8>) -> Result<(), Fail> {
+pub fn append_separated(text: &str, out: &mut TextBuffer) -> Result<(), Fail> {
     let mut parts = Separated::of(
         b',',
         Placed {
@@ -64,13 +70,13 @@ pub fn append_separated(text: &str, out: &mut Vec<u8>) -> Result<(), Fail> {
 }
 
 /// Appends what stands before the first `=` of a text, and what behind it.
-pub fn append_cut(text: &str, out: &mut Vec<u8>) -> Result<(), Fail> {
+pub fn append_cut(text: &str, out: &mut TextBuffer) -> Result<(), Fail> {
     let (key, value) = first_part(b'=', text);
     put(out, format_args!("{key:?} {value:?}\n"))
 }
 
 /// Appends the words of a text, each with its offset.
-pub fn append_offsets(text: &str, out: &mut Vec<u8>) -> Result<(), Fail> {
+pub fn append_offsets(text: &str, out: &mut TextBuffer) -> Result<(), Fail> {
     let mut words = Words::of(Placed {
         offset: OFFSET,
         text,
@@ -85,7 +91,7 @@ pub fn append_offsets(text: &str, out: &mut Vec<u8>) -> Result<(), Fail> {
 }
 
 /// What each call appends to a text.
-fn grow(text: &mut Vec<u8>) -> Result<(), OutOfMemory> {
+fn grow(text: &mut TextBuffer) -> Result<(), OutOfMemory> {
     append_words(text, " words ")?;
     append_bytes(text, b"bytes")?;
     append_numbers(text, &[(" a ", 0), (" b ", 10)], " end")?;
@@ -95,8 +101,8 @@ fn grow(text: &mut Vec<u8>) -> Result<(), OutOfMemory> {
 }
 
 /// Appends a text with what each call appends to it, and what is left of it after a call that failed.
-pub fn append_text(alloc: Global, text: &str, out: &mut Vec<u8>) -> Result<(), Fail> {
-    let mut grown = Vec::from_slice(alloc, text.as_bytes())?;
+pub fn append_text(alloc: Global, text: &str, out: &mut TextBuffer) -> Result<(), Fail> {
+    let mut grown = TextBuffer::of(Vec::from_slice(alloc, text.as_bytes())?);
     grow(&mut grown)?;
     out.extend_from_slice(grown.as_slice())?;
     let settled = settle(&mut grown, text.len(), Err(OutOfMemory));
@@ -105,7 +111,7 @@ pub fn append_text(alloc: Global, text: &str, out: &mut Vec<u8>) -> Result<(), F
 }
 
 /// Appends a text and a newline as they stand in the value of a label of OpenMetrics.
-pub fn append_written_label(text: &str, out: &mut Vec<u8>) -> Result<(), Fail> {
+pub fn append_written_label(text: &str, out: &mut TextBuffer) -> Result<(), Fail> {
     let label = Marks {
         bytes: [b'"', b'\\', b'\n'],
         written: [b'"', b'\\', b'n'],

@@ -1,13 +1,13 @@
 //! The texts of rows, and what comes of them.
 use scenario_tables::{Part, Row};
 use std::alloc::Global;
-use std::fmt::Display;
-use std::io::Write;
+use std::fmt::{Display, Write};
 use std::str;
 use std::test::Fail;
+use text_buffer::TextBuffer;
 
 /// Appends words.
-pub fn put<D: Display + Drop>(out: &mut Vec<u8>, words: D) -> Result<(), Fail> {
+pub fn put<D: Display + Drop>(out: &mut TextBuffer, words: D) -> Result<(), Fail> {
     write!(out, "{words}")?;
     Ok(())
 }
@@ -29,7 +29,7 @@ pub fn setting(alloc: Global, row: &Row, key: &str) -> Result<String, Fail> {
 }
 
 /// Appends words so many times, with 0, 1, 2 and so on in the place of their `N`, where they have one.
-fn append_copies(count: u32, words: &str, out: &mut Vec<u8>) -> Result<(), Fail> {
+fn append_copies(count: u32, words: &str, out: &mut TextBuffer) -> Result<(), Fail> {
     match words.split_once('N') {
         Some((front, back)) => {
             for i in 0..count {
@@ -46,7 +46,7 @@ fn append_copies(count: u32, words: &str, out: &mut Vec<u8>) -> Result<(), Fail>
 }
 
 /// Appends a text in which `<<COUNT WORDS>>` stands for the words so many times.
-fn append_repeated(text: &str, out: &mut Vec<u8>) -> Result<(), Fail> {
+fn append_repeated(text: &str, out: &mut TextBuffer) -> Result<(), Fail> {
     for part in text.split("<<") {
         match part.split_once(">>") {
             Some((mark, rest)) => {
@@ -63,7 +63,7 @@ fn append_repeated(text: &str, out: &mut Vec<u8>) -> Result<(), Fail> {
 /// A piece, with the lines before and behind it that the row says, and with what is repeated where it says so;
 /// with a newline behind it where pieces are whole lines.
 pub fn whole(alloc: Global, row: &Row, part: &Part, piece: &[u8]) -> Result<Vec<u8>, Fail> {
-    let mut text = Vec::new(alloc);
+    let mut text = TextBuffer::new(alloc);
     text.extend_from_slice(setting(alloc, row, "before")?.as_bytes())?;
     if row.part("repeats").is_some() {
         append_repeated(str::from_utf8(piece)?, &mut text)?;
@@ -74,5 +74,5 @@ pub fn whole(alloc: Global, row: &Row, part: &Part, piece: &[u8]) -> Result<Vec<
         text.push(b'\n')?;
     }
     text.extend_from_slice(setting(alloc, row, "behind")?.as_bytes())?;
-    Ok(text)
+    Ok(text.into_vec())
 }

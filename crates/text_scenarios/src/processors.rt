@@ -13,6 +13,7 @@ use proc_regex::{Rewrite, is_pattern};
 use scenario_tables::Row;
 use std::alloc::Global;
 use std::test::Fail;
+use text_buffer::TextBuffer;
 
 /// The part of a metric that a word says.
 pub fn part_of(word: &str) -> Result<Part, Fail> {
@@ -57,7 +58,7 @@ pub fn append_renamed(
     alloc: Global,
     row: &Row,
     lines: &str,
-    out: &mut Vec<u8>,
+    out: &mut TextBuffer,
 ) -> Result<(), Fail> {
     let rename = rename_of(alloc, setting(alloc, row, "rules")?.as_str())?;
     for metric in &metrics_of(alloc, lines)? {
@@ -109,7 +110,7 @@ pub fn append_converted(
     alloc: Global,
     row: &Row,
     lines: &str,
-    out: &mut Vec<u8>,
+    out: &mut TextBuffer,
 ) -> Result<(), Fail> {
     let tags = targets_of(alloc, setting(alloc, row, "tags")?.as_str())?;
     let fields = targets_of(alloc, setting(alloc, row, "fields")?.as_str())?;
@@ -125,7 +126,7 @@ pub fn append_deduplicated(
     alloc: Global,
     row: &Row,
     lines: &str,
-    out: &mut Vec<u8>,
+    out: &mut TextBuffer,
 ) -> Result<(), Fail> {
     let interval = row.part("interval").map_or("0", |part| part.value);
     let mut dedup = Dedup::new(alloc, interval.parse()?);
@@ -151,7 +152,7 @@ fn append_by_pattern(
     row: &Row,
     part: Part,
     lines: &str,
-    out: &mut Vec<u8>,
+    out: &mut TextBuffer,
 ) -> Result<(), Fail>
     requires { has_keys part ≡ true }
 {
@@ -177,7 +178,7 @@ pub fn append_rewritten(
     alloc: Global,
     row: &Row,
     lines: &str,
-    out: &mut Vec<u8>,
+    out: &mut TextBuffer,
 ) -> Result<(), Fail> {
     match row.value("part") {
         "tag" => append_by_pattern(alloc, row, Part::Tag, lines, out),
@@ -187,7 +188,7 @@ pub fn append_rewritten(
 }
 
 /// Appends whether a text is a pattern.
-pub fn append_pattern(alloc: Global, text: &str, out: &mut Vec<u8>) -> Result<(), Fail> {
+pub fn append_pattern(alloc: Global, text: &str, out: &mut TextBuffer) -> Result<(), Fail> {
     if is_pattern(alloc, text)? {
         put(out, "a pattern\n")
     } else {

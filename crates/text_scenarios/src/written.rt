@@ -5,13 +5,14 @@ use metric::Metric;
 use scenario_tables::Row;
 use std::alloc::Global;
 use std::test::Fail;
+use text_buffer::TextBuffer;
 
 /// What stands in a text before a call appends to it.
 const OLD: &[u8] = b"old ";
 
 /// Appends the line in line protocol of a metric that is made of what lines say, or of what stands between the marks
 /// that the row says.
-pub fn append_made(alloc: Global, row: &Row, text: &str, out: &mut Vec<u8>) -> Result<(), Fail> {
+pub fn append_made(alloc: Global, row: &Row, text: &str, out: &mut TextBuffer) -> Result<(), Fail> {
     let between = row.part("between").map_or("\n", |part| part.value);
     let (builder, time) = built(alloc, text, between)?;
     let metric = builder.finish(time)?;
@@ -32,7 +33,7 @@ pub fn metrics_of(alloc: Global, lines: &str) -> Result<Vec<Metric>, Fail> {
 }
 
 /// Appends a text without what stood in it before.
-fn append_new(text: &[u8], out: &mut Vec<u8>) -> Result<(), Fail> {
+fn append_new(text: &[u8], out: &mut TextBuffer) -> Result<(), Fail> {
     match text.strip_prefix(OLD) {
         Some(new) => out.extend_from_slice(new)?,
         None => out.extend_from_slice(b"the old text is gone\n")?,
@@ -41,8 +42,8 @@ fn append_new(text: &[u8], out: &mut Vec<u8>) -> Result<(), Fail> {
 }
 
 /// Appends the lines of metrics without their times.
-pub fn append_untimed(alloc: Global, lines: &str, out: &mut Vec<u8>) -> Result<(), Fail> {
-    let mut text = Vec::from_slice(alloc, OLD)?;
+pub fn append_untimed(alloc: Global, lines: &str, out: &mut TextBuffer) -> Result<(), Fail> {
+    let mut text = TextBuffer::of(Vec::from_slice(alloc, OLD)?);
     for metric in &metrics_of(alloc, lines)? {
         write_untimed(alloc, metric, &mut text)?;
     }
@@ -50,8 +51,8 @@ pub fn append_untimed(alloc: Global, lines: &str, out: &mut Vec<u8>) -> Result<(
 }
 
 /// Appends the lines of Graphite of metrics.
-pub fn append_lines(alloc: Global, lines: &str, out: &mut Vec<u8>) -> Result<(), Fail> {
-    let mut text = Vec::from_slice(alloc, OLD)?;
+pub fn append_lines(alloc: Global, lines: &str, out: &mut TextBuffer) -> Result<(), Fail> {
+    let mut text = TextBuffer::of(Vec::from_slice(alloc, OLD)?);
     for metric in &metrics_of(alloc, lines)? {
         graphite_text::write_metric(alloc, metric, &mut text)?;
     }
@@ -59,8 +60,8 @@ pub fn append_lines(alloc: Global, lines: &str, out: &mut Vec<u8>) -> Result<(),
 }
 
 /// Appends the exposition of a batch of metrics.
-pub fn append_batch(alloc: Global, lines: &str, out: &mut Vec<u8>) -> Result<(), Fail> {
-    let mut text = Vec::from_slice(alloc, OLD)?;
+pub fn append_batch(alloc: Global, lines: &str, out: &mut TextBuffer) -> Result<(), Fail> {
+    let mut text = TextBuffer::of(Vec::from_slice(alloc, OLD)?);
     let metrics = metrics_of(alloc, lines)?;
     openmetrics_text::write_batch(alloc, metrics.as_slice(), &mut text)?;
     append_new(text.as_slice(), out)

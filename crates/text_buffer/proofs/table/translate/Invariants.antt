@@ -1,6 +1,6 @@
 use Rattle.std.proofs.Common.{◌≡◌, ◌++◌, ℕ, take, drop, map}
-use Rattle.text_parts.specs.Tables.{IsTableOf}
-use Rattle.text_parts.proofs.table.translate.Given as goal
+use Rattle.text_buffer.specs.Tables.{IsTableOf}
+use Rattle.text_buffer.proofs.table.translate.Given as goal
 
 abbrev pub invariant-loop-byte : goal.invariant-loop-byte
 invariant-loop-byte l = (f : ℕ → ℕ) → IsTableOf f l.table

@@ -109,6 +109,31 @@ offered_more item lanes₀ numbers₀ views left rest view lanes lanes' numbers 
       ];
     }
 
+-- before any view was offered
+pub none_offered : (item : ℕ) (lanes : List (LaneState Offer)) (numbers : Numbers) (views : List (Option Content)) →
+    length views ≡ length lanes → Offered item lanes numbers views views lanes numbers
+none_offered item lanes numbers views vs = record {
+  left_of = λ k b. refl;
+  most = omega arith;
+  as_many = refl;
+  numbered = refl;
+  rest = refl;
+  lane_before = λ o b. refl;
+  number_before = λ o b. refl;
+  lane_after = λ o b c. absurd (omega arith);
+  number_after = λ o b c. absurd (omega arith);
+}
+
+-- once the view of the only output was
+pub only_offered : (item : ℕ) (lanes₀ : List (LaneState Offer)) (numbers₀ : Numbers) (view : Option Content)
+    (lanes : List (LaneState Offer)) (numbers : Numbers) → length (view ∷ []) ≡ length lanes₀ →
+    length numbers₀.outputs ≡ length lanes₀ → lanes ≡ slice_set lanes₀ 0 (lane_with item view (lane_at lanes₀ 0)) →
+    numbers ≡ with_output numbers₀ 0 (numbers_with view (lane_at lanes₀ 0) (output_numbers numbers₀ 0)) →
+    Offered item lanes₀ numbers₀ (view ∷ []) [] lanes numbers
+only_offered item lanes₀ numbers₀ view lanes numbers vs os ls ns =
+    offered_more item lanes₀ numbers₀ (view ∷ []) (view ∷ []) [] view lanes₀ lanes numbers₀ numbers vs os refl ls ns
+    (none_offered item lanes₀ numbers₀ (view ∷ []) vs)
+
 -- an output's lane, once all views were offered
 pub lanes_with-at : (item : ℕ) (views : List (Option Content)) (lanes : List (LaneState Offer)) (o : ℕ) →
     o < length lanes → lane_at (lanes_with item views lanes) o ≡ lane_with item (view_at o views) (lane_at lanes o)

@@ -11,6 +11,7 @@ pub mod CoreState
 pub mod CoreView
 pub mod OutputView
 pub mod Steps
+pub mod ViewList
 pub mod ToldView
 pub mod MarkedView
 pub mod Shapes

@@ -1,6 +1,7 @@
 //! Room for entries and copies of metrics.
 ghost use Rattle.std.specs.Prelude.{◌≡◌, ◌+◌, ◌++◌, ◌<◌, ◌≤◌, ◌^◌, vec_len, vec_capacity};
 ghost use Rattle.std.specs.Prelude.{IfOk, OnOk, OnErr};
+ghost use Rattle.pipeline_core.specs.ViewList.{listed_views};
 
 use account::Entry;
 use fixed_num::OutOfMemory;
@@ -73,20 +74,48 @@ pub(crate) fn line_up(
     Ok(())
 }
 
-/// The views of an item: up to four of them take no memory but their own.
-pub(crate) type Views = SmallVec<Option<Metric>, 4>;
+/// The views of an item, in the order of the outputs.
+#[derive(Drop)]
+pub(crate) enum Views {
+    /// That of the only output.
+    One(Option<Metric>),
+    /// Those of several outputs: up to four of them take no memory but their own.
+    Several(SmallVec<Option<Metric>, 4>),
+}
 
 /// Copies of views, in order.
+#[inline(always)]
 pub(crate) fn view_copies(alloc: Global, views: &[Option<Metric>]) -> Result<Views, OutOfMemory>
+    ensures { IfOk result (λ copies. listed_views copies ≡ views.now) }
+{
+    if let [view] = views {
+        return Ok(Views::One(view_copy(view)?));
+    }
+    Ok(Views::Several(several_copies(alloc, views)?))
+}
+
+/// A copy of a view.
+#[inline(always)]
+fn view_copy(view: &Option<Metric>) -> Result<Option<Metric>, OutOfMemory>
+    ensures { IfOk result (λ copy. copy ≡ view.now) }
+{
+    match view {
+        Some(metric) => Ok(Some(metric.copy()?)),
+        None => Ok(None),
+    }
+}
+
+/// Copies of the views of several outputs, in order.
+#[inline(never)]
+fn several_copies(
+    alloc: Global,
+    views: &[Option<Metric>],
+) -> Result<SmallVec<Option<Metric>, 4>, OutOfMemory>
     ensures { IfOk result (λ copies. copies.items ≡ views.now) }
 {
     let mut copies = SmallVec::with_capacity(alloc, views.len())?;
     for view in views {
-        let copy = match view {
-            Some(metric) => Some(metric.copy()?),
-            None => None,
-        };
-        copies.push(copy)?;
+        copies.push(view_copy(view)?)?;
     }
     Ok(copies)
 }

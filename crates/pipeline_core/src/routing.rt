@@ -15,6 +15,7 @@ ghost use Rattle.pipeline_core.specs.Stands.{Continues, IsAsBefore, Stands};
 ghost use Rattle.pipeline_core.specs.Steps.{route_entry, after_route, lane_with, numbers_with, lanes_with};
 ghost use Rattle.pipeline_core.specs.Steps.{outputs_with, lanes_routed, numbers_routed, HasFew};
 ghost use Rattle.pipeline_core.specs.Steps.{consumed_more, late_more};
+ghost use Rattle.pipeline_core.specs.ViewList.{listed_views};
 
 use crate::output::{Offer, Output};
 use crate::room::{Views, make_room, view_copies};
@@ -24,6 +25,7 @@ use account::{Account, Entry, Report, Verdict};
 use agg_bank::Bank;
 use fixed_num::{OutOfMemory, Seq};
 use metric::Metric;
+use smallvec::SmallVec;
 
 /// What was made of the item in hand.
 #[derive(Drop)]
@@ -127,7 +129,7 @@ fn hand_out(
     verdict: Verdict,
     views: Views,
 )
-    requires views { length views.items ≡ length outputs.old.items }
+    requires views { length (listed_views views) ≡ length outputs.old.items }
     requires numbers { length account.old.outputs ≡ length outputs.old.items }
     requires count { length outputs.old.items ≤ 16 }
     requires removed { account.old.removed < 2 ^ 63 }
@@ -135,9 +137,9 @@ fn hand_out(
     requires few { (output : ℕ) → output < length outputs.old.items →
         HasFew (output_numbers account.old output) (lane_at outputs.old.items output) }
     ensures lanes { outputs.new.items
-        ≡ lanes_routed item verdict views.items outputs.old.items }
+        ≡ lanes_routed item verdict (listed_views views) outputs.old.items }
     ensures account { account.new
-        ≡ numbers_routed verdict views.items outputs.old.items account.old }
+        ≡ numbers_routed verdict (listed_views views) outputs.old.items account.old }
 {
     match verdict {
         Verdict::Removed => account.removed(),
@@ -181,7 +183,32 @@ fn count_late(account: &mut Account, outputs: usize)
 }
 
 // Offers each output the item's view there, and counts what became of it.
-fn offer_views(outputs: &mut Vec<Output>, account: &mut Account, item: u64, mut views: Views)
+#[inline(always)]
+fn offer_views(outputs: &mut Vec<Output>, account: &mut Account, item: u64, views: Views)
+    requires views { length (listed_views views) ≡ length outputs.old.items }
+    requires numbers { length account.old.outputs ≡ length outputs.old.items }
+    requires count { length outputs.old.items ≤ 16 }
+    requires few { (output : ℕ) → output < length outputs.old.items →
+        HasFew (output_numbers account.old output) (lane_at outputs.old.items output) }
+    ensures lanes { outputs.new.items ≡ lanes_with item (listed_views views) outputs.old.items }
+    ensures account { account.new ≡ record account.old {
+      outputs = outputs_with (listed_views views) outputs.old.items account.old.outputs;
+    } }
+{
+    match views {
+        Views::One(view) => offer_view(outputs, account, 0, item, view),
+        Views::Several(views) => offer_several(outputs, account, item, views),
+    }
+}
+
+// The same, of several outputs.
+#[inline(never)]
+fn offer_several(
+    outputs: &mut Vec<Output>,
+    account: &mut Account,
+    item: u64,
+    mut views: SmallVec<Option<Metric>, 4>,
+)
     requires views { length views.items ≡ length outputs.old.items }
     requires numbers { length account.old.outputs ≡ length outputs.old.items }
     requires count { length outputs.old.items ≤ 16 }
@@ -197,6 +224,7 @@ fn offer_views(outputs: &mut Vec<Output>, account: &mut Account, item: u64, mut 
 }
 
 // Offers an output the item's view there, and counts what became of it.
+#[inline(always)]
 fn offer_view(
     outputs: &mut Vec<Output>,
     account: &mut Account,

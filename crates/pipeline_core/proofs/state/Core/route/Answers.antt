@@ -35,6 +35,7 @@ use Rattle.pipeline_core.proofs.TellingLemmas.{length-told_with}
 use Rattle.pipeline_core.proofs.Standing.{few_offers, on_err, stands_with}
 use Rattle.pipeline_core.proofs.Keeping.{flights-le, has_few, kept_bank, kept_entries, length-lanes_routed}
 use Rattle.pipeline_core.proofs.state.Core.route.Goals.{After-as_slice-3, After-as_slice-4, Joined-r-12}
+use Rattle.pipeline_core.specs.ViewList.{listed_views}
 use Rattle.pipeline_core.proofs.state.Core.route.Goals as goal
 
 -- the group of the item in hand
@@ -260,7 +261,7 @@ invariant_of-self-3 c =
         arith,
         flights-le c.hand_out.new.outputs.items,
         ap length (c.hand_out.ensures.lanes),
-        length-lanes_routed c.args.r.item verdict c.in_ok-views.views.items c.self.inside.outputs.items,
+        length-lanes_routed c.args.r.item verdict (listed_views c.in_ok-views.views) c.self.inside.outputs.items,
         c.in_ok-make_room.ensures.room,
       );
       places = subst (λ (t : TrackerState). HasPlaces t c.tell.new.told.items) (sym (settled at).0)

@@ -1,6 +1,6 @@
 use Rattle.smallvec.specs.SmallVec.{small_vec_len}
 use Rattle.pipeline_core.proofs.Offering.{Offered}
-use Rattle.pipeline_core.proofs.routing.offer_views.Given as goal
+use Rattle.pipeline_core.proofs.routing.offer_several.Given as goal
 
 -- the outputs whose views are left are as they were, and the others have got theirs
 abbrev pub invariant-loop-view : goal.invariant-loop-view

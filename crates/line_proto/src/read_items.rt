@@ -44,6 +44,7 @@ pub(crate) fn name_text(
 }
 
 /// Puts a tag into a draft.
+#[inline(always)]
 fn put_tag(
     alloc: Global,
     piece: &str,
@@ -72,6 +73,7 @@ fn put_tag(
 }
 
 /// Puts a field into a draft.
+#[inline(always)]
 fn put_field(
     alloc: Global,
     piece: &str,

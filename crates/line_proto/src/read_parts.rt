@@ -64,6 +64,7 @@ fn name_span(piece: &str, i: usize) -> Span
 }
 
 /// Where the key stands that begins at an offset.
+#[inline(always)]
 fn key_span(piece: &str, i: usize) -> Span
     requires boundary { IsCharBoundary piece.now i }
     ensures start { result.start ≡ i }
@@ -73,6 +74,7 @@ fn key_span(piece: &str, i: usize) -> Span
 }
 
 /// Where the value of a tag stands that begins at an offset.
+#[inline(always)]
 fn tag_value_span(piece: &str, i: usize) -> Span
     requires boundary { IsCharBoundary piece.now i }
     ensures start { result.start ≡ i }
@@ -114,6 +116,7 @@ fn first_other(bytes: &[u8]) -> Option<usize>
 }
 
 /// What stands at an offset before the next comma or space: a value that is no text.
+#[inline(always)]
 pub(crate) fn word_at(piece: &str, i: usize) -> &str
     requires boundary { IsCharBoundary piece.now i }
     ensures value { IsPartAt value_part piece.now i result.now }
@@ -170,6 +173,7 @@ fn equals_at(bytes: &[u8], at: usize) -> bool
 }
 
 /// The key that begins at an offset, behind which an equals sign stands.
+#[inline(always)]
 #[tactic(auto, unfolding(crate::specs::Reading::key_at))]
 pub(crate) fn key_at(piece: &str, i: usize) -> Result<Span, ReadError<LineFault>>
     requires boundary { IsCharBoundary piece.now i }
@@ -187,6 +191,7 @@ pub(crate) fn key_at(piece: &str, i: usize) -> Result<Span, ReadError<LineFault>
 }
 
 /// The value of a tag that begins at an offset.
+#[inline(always)]
 #[tactic(auto, unfolding(crate::specs::Reading::tag_value_at))]
 fn tag_value_at(piece: &str, i: usize) -> Result<Span, ReadError<LineFault>>
     requires boundary { IsCharBoundary piece.now i }
@@ -203,6 +208,7 @@ fn tag_value_at(piece: &str, i: usize) -> Result<Span, ReadError<LineFault>>
 }
 
 /// The tag that begins at an offset.
+#[inline(always)]
 #[tactic(auto, unfolding(crate::specs::Reading::tag_at))]
 pub(crate) fn tag_at(piece: &str, i: usize) -> Result<(Span, Span), ReadError<LineFault>>
     requires boundary { IsCharBoundary piece.now i }

@@ -66,6 +66,7 @@ fn truth_value(text: &str) -> Option<bool>
     truth_word(text)
 }
 
+#[inline(always)]
 fn int_value(text: &[u8]) -> Result<Value, LineKind>
     ensures { result ≡ typed Value.Int (int_read_as text.now) }
 {
@@ -76,6 +77,7 @@ fn int_value(text: &[u8]) -> Result<Value, LineKind>
     }
 }
 
+#[inline(always)]
 fn uint_value(text: &[u8]) -> Result<Value, LineKind>
     ensures { result ≡ typed Value.Uint (uint_read_as text.now) }
 {
@@ -86,6 +88,7 @@ fn uint_value(text: &[u8]) -> Result<Value, LineKind>
     }
 }
 
+#[inline(always)]
 fn fixed_value(text: &[u8]) -> Result<Value, LineKind>
     ensures { result ≡ typed Value.Fixed (read_as text.now) }
 {
@@ -97,6 +100,7 @@ fn fixed_value(text: &[u8]) -> Result<Value, LineKind>
 }
 
 /// The number that a text is: a last `i` makes it an Int, a last `u` a Uint.
+#[inline(always)]
 #[tactic(auto, unfolding(crate::specs::Values::number_of))]
 fn number_value(text: &[u8]) -> Result<Value, LineKind>
     ensures { result ≡ number_of text.now }
@@ -109,6 +113,7 @@ fn number_value(text: &[u8]) -> Result<Value, LineKind>
 }
 
 /// The value that a text is.
+#[inline(always)]
 #[tactic(auto, unfolding(crate::specs::Values::value_of))]
 fn value_of(text: &str) -> Result<Value, LineKind>
     ensures { result ≡ value_of text.now }
@@ -120,6 +125,7 @@ fn value_of(text: &str) -> Result<Value, LineKind>
 }
 
 /// The value that begins at an offset where no double quote stands, and the offset behind it.
+#[inline(always)]
 #[tactic(auto, unfolding(crate::specs::Reading::plain_value_at))]
 fn plain_value_at(piece: &str, i: usize) -> Result<(Value, usize), ReadError<LineFault>>
     requires boundary { IsCharBoundary piece.now i }
@@ -183,6 +189,7 @@ fn text_value_at(
 }
 
 /// The value that begins at an offset, and the offset behind it.
+#[inline(always)]
 #[tactic(auto, unfolding(crate::specs::Reading::value_at))]
 fn value_at(alloc: Global, piece: &str, i: usize) -> Result<(Value, usize), ReadError<LineFault>>
     requires boundary { IsCharBoundary piece.now i }
@@ -198,6 +205,7 @@ fn value_at(alloc: Global, piece: &str, i: usize) -> Result<(Value, usize), Read
 }
 
 /// The field that begins at an offset, and the offset behind it.
+#[inline(always)]
 #[tactic(auto, unfolding(crate::specs::Reading::field_at))]
 pub(crate) fn field_at(
     alloc: Global,

@@ -1,8 +1,9 @@
 //! The buffer. What fails for want of memory leaves the text as it was.
 ghost use Rattle.std.specs.Prelude.{◌≡◌, ◌==◌, ◌+◌, ◌-◌, ◌<◌, ◌≤◌, ◌++◌, ◌∷◌, [], ℕ, length, take, drop, map};
-ghost use Rattle.std.specs.Prelude.{slice_set, is_ok, if◌then◌else◌, IfOk, OnOk, OnErr};
+ghost use Rattle.std.specs.Prelude.{slice_set, is_ok, if◌then◌else◌, decimal, IfOk, OnOk, OnErr};
 ghost use Rattle.text_buffer.specs.Tables.{IsTableOf};
 
+use crate::digits::{MOST_DIGITS, place_digits};
 use crate::place::{WINDOW, place_all, place_byte, place_start};
 use crate::table::translate;
 use std::alloc::{AllocError, Global};
@@ -204,6 +205,15 @@ impl TextBuffer {
         ensures ready { self.new.ready + length bytes.now ≡ self.old.ready }
     {
         self.len = place_all(self.cells.as_mut_slice(), self.len, bytes);
+    }
+
+    // Appends a number's digits, in room that stands ready.
+    #[inline(always)]
+    pub(crate) fn put_uint(&mut self, n: u64)
+        requires { MOST_DIGITS ≤ self.old.ready }
+        ensures { self.new.items ≡ self.old.items ++ decimal n }
+    {
+        self.len = place_digits(self.cells.as_mut_slice(), self.len, n);
     }
 
     /// Appends a byte.

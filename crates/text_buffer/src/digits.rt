@@ -1,31 +1,43 @@
 //! Numbers in decimal digits.
-ghost use Rattle.std.specs.Prelude.{◌≡◌, ◌+◌, ◌≤◌, ◌++◌, decimal, is_ok, if◌then◌else◌};
+ghost use Rattle.std.specs.Prelude.{◌≡◌, ◌+◌, ◌≤◌, ◌++◌, length, decimal, is_ok, if◌then◌else◌};
 ghost use Rattle.std.specs.Fmt.{signed_decimal};
+ghost use Rattle.text_buffer.specs.Placed.{Placed};
 
-use crate::TextBuffer;
-use crate::place::WINDOW;
+use crate::buffer::TextBuffer;
 use std::alloc::AllocError;
 
 /// How many digits a number of 64 bits has at most.
-const MOST_DIGITS: usize = 20;
+pub(crate) const MOST_DIGITS: usize = 20;
+
+// How many digits a number has.
+#[inline(always)]
+fn digit_count(n: u64) -> usize
+    ensures { result ≡ length (decimal n) }
+{
+    match n.checked_ilog10() {
+        Some(power) => power as usize + 1,
+        None => 1,
+    }
+}
+
+// Writes a number's digits.
+#[inline(always)]
+pub(crate) fn place_digits(cells: &mut [u8], at: usize, n: u64) -> usize
+    requires { at + MOST_DIGITS ≤ length cells.old }
+    ensures { Placed cells.old cells.new at (decimal n) result }
+{
+    let end = at + digit_count(n);
+    itoa::write_digits(n, cells, end);
+    end
+}
 
 impl TextBuffer {
-    // Appends a number. As many bytes are written whatever the number, so that the copy has one size.
-    fn put_uint(&mut self, n: u64)
-        requires { WINDOW ≤ self.old.ready }
-        ensures { self.new.items ≡ self.old.items ++ decimal n }
-    {
-        let mut cells = [0; MOST_DIGITS + WINDOW];
-        let start = itoa::write_digits(n, &mut cells, MOST_DIGITS);
-        self.put_front(&cells[start..], MOST_DIGITS - start);
-    }
-
     /// Appends a number in decimal digits. `AllocError` leaves the text as it was.
     #[inline(never)]
     pub fn push_uint(&mut self, n: u64) -> Result<(), AllocError>
         ensures items { self.new.items ≡ (if is_ok result then self.old.items ++ decimal n else self.old.items) }
     {
-        self.reserve(WINDOW)?;
+        self.reserve(MOST_DIGITS)?;
         self.put_uint(n);
         Ok(())
     }
@@ -37,7 +49,7 @@ impl TextBuffer {
         ensures items { self.new.items
             ≡ (if is_ok result then self.old.items ++ signed_decimal n else self.old.items) }
     {
-        self.reserve(1 + WINDOW)?;
+        self.reserve(1 + MOST_DIGITS)?;
         if n < 0 {
             self.put_byte(b'-');
             self.put_uint(n.unsigned_abs());

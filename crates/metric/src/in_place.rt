@@ -1,6 +1,7 @@
 //! Short texts that stand in place.
 ghost use Rattle.std.specs.Prelude.{◌≡◌, ◌≤◌, ◌++◌, true, length, take, OnErr, OnOk};
 
+use crate::words::row_with;
 use fixed_num::OutOfMemory;
 use std::marker::Model;
 use std::{fmt, str};
@@ -37,7 +38,7 @@ impl InPlace {
         ensures { result ≡ s.now }
     {
         InPlace {
-            cells: filled(s.as_bytes()),
+            cells: row_with(s.as_bytes()),
             len: s.len() as u32,
         }
     }
@@ -80,19 +81,6 @@ impl InPlace {
     {
         self.len == other.len && self.cells == other.cells
     }
-}
-
-/// Cells that begin with some bytes.
-#[inline(always)]
-fn filled(bytes: &[u8]) -> [u8; MOST]
-    requires { length bytes.now ≤ MOST }
-    ensures front { take (length bytes.now) result ≡ bytes.now }
-    ensures len { length result ≡ MOST }
-{
-    let mut cells = [0; MOST];
-    let (front, _) = cells.split_at_mut(bytes.len());
-    front.copy_from_slice(bytes);
-    cells
 }
 
 impl fmt::Debug for InPlace {

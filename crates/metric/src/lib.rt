@@ -16,6 +16,7 @@ mod plain;
 mod series;
 mod text;
 mod value;
+mod words;
 
 pub use builder::{BuildFault, Builder, insert_tag};
 pub use draft::{Draft, DraftFault};

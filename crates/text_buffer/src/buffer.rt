@@ -233,6 +233,7 @@ impl TextBuffer {
         requires { (WINDOW ≤ length bytes.now) × (count ≤ WINDOW) }
         ensures items { self.new.items
             ≡ (if is_ok result then self.old.items ++ take count bytes.now else self.old.items) }
+        ensures full { OnErr result (self.old.ready < WINDOW) }
     {
         self.reserve(WINDOW)?;
         self.put_front(bytes, count);

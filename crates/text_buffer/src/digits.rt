@@ -1,5 +1,5 @@
 //! Numbers in decimal digits.
-ghost use Rattle.std.specs.Prelude.{◌≡◌, ◌+◌, ◌≤◌, ◌++◌, length, decimal, is_ok, if◌then◌else◌};
+ghost use Rattle.std.specs.Prelude.{◌≡◌, ◌+◌, ◌<◌, ◌≤◌, ◌++◌, length, decimal, is_ok, if◌then◌else◌, OnErr};
 ghost use Rattle.std.specs.Fmt.{signed_decimal};
 ghost use Rattle.text_buffer.specs.Placed.{Placed};
 
@@ -32,22 +32,25 @@ pub(crate) fn place_digits(cells: &mut [u8], at: usize, n: u64) -> usize
 }
 
 impl TextBuffer {
-    /// Appends a number in decimal digits. `AllocError` leaves the text as it was.
+    /// Appends a number in decimal digits. `AllocError`, which comes only where fewer than 20 bytes stand ready, leaves
+    /// the text as it was.
     #[inline(never)]
     pub fn push_uint(&mut self, n: u64) -> Result<(), AllocError>
         ensures items { self.new.items ≡ (if is_ok result then self.old.items ++ decimal n else self.old.items) }
+        ensures full { OnErr result (self.old.ready < 20) }
     {
         self.reserve(MOST_DIGITS)?;
         self.put_uint(n);
         Ok(())
     }
 
-    /// Appends a number in decimal digits, with `-` before them where it is negative. `AllocError` leaves the text as
-    /// it was.
+    /// Appends a number in decimal digits, with `-` before them where it is negative. `AllocError`, which comes only
+    /// where fewer than 21 bytes stand ready, leaves the text as it was.
     #[inline(never)]
     pub fn push_int(&mut self, n: i64) -> Result<(), AllocError>
         ensures items { self.new.items
             ≡ (if is_ok result then self.old.items ++ signed_decimal n else self.old.items) }
+        ensures full { OnErr result (self.old.ready < 21) }
     {
         self.reserve(1 + MOST_DIGITS)?;
         if n < 0 {

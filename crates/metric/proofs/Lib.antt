@@ -1,4 +1,5 @@
 pub mod PairLemmas
+pub mod FieldLemmas
 pub mod WordLemmas
 pub mod MetricLemmas
 pub mod SameLemmas

@@ -292,12 +292,17 @@ fn index_of(tags: &[(Text, Text)], key: &str) -> Result<usize, usize>
     Err(0)
 }
 
-/// Where the field of a key stands.
+/// Where the field of a key stands. Each field asks for it as it is read: written out, it takes no call.
 #[inline(always)]
 pub(crate) fn field_at(fields: &[(Text, Value)], key: &str) -> Option<usize>
     ensures { result ≡ position (λ field. bytes_eq field.0 key.now) fields.now }
 {
-    fields.iter().position(|field| field.0.as_str() == key)
+    for at in 0..fields.len() {
+        if fields[at].0.as_str() == key {
+            return Some(at);
+        }
+    }
+    None
 }
 
 /// Does a tag have an empty key?

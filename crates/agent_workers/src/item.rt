@@ -97,6 +97,7 @@ impl Views {
     }
 
     /// Those of as many that have none.
+    #[inline(always)]
     fn of_none(views: Vec<Option<Metric>>) -> Views
         ensures { result.views ≡ views.items }
     {
@@ -216,6 +217,9 @@ fn seen(
     ensures views { IfOk result (λ seen. seen.views ≡ seen_by confs.now made whole.now) }
     ensures same { IfOk result (λ seen. seen.same ≡ true → AreWhole whole.now seen.views) }
 {
+    if confs.is_empty() {
+        return Ok(Views::of_none(Vec::new(alloc)));
+    }
     if made {
         return no_agg_views(alloc, confs);
     }

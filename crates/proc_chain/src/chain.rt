@@ -59,8 +59,21 @@ impl<'a> Chain<'a> {
             → OnErr result (IsBehind steps list self.new) }
         ensures steps { steps_of self.new ≡ steps_of self.old }
     {
-        push_from(&mut self.stages, 0, Kept::Same(m))
+        push_all(&mut self.stages, Kept::Same(m))
     }
+}
+
+/// What all stages make of the next metric. Most chains have none.
+#[inline(always)]
+fn push_all(stages: &mut Vec<Stage<'_>>, m: Kept) -> Result<Option<Kept>, OutOfMemory>
+    ensures pushes { PushesFrom 0 stages.old.items (metric_of m) result stages.new.items }
+    ensures goes_on { IfOk result (λ answer. IfSome answer
+        (GoesOn (leave_as_is (steps_of stages.old.items) (metric_of m)) m)) }
+{
+    if stages.is_empty() {
+        return Ok(Some(m));
+    }
+    push_from(stages, 0, m)
 }
 
 /// What the stages from an index on make of the next metric, one after the other. What is to be kept is kept once all

@@ -120,34 +120,6 @@ pub(crate) fn settle_routed(
     if group.is_none() && marked.is_empty() {
         return;
     }
-    settle_tracked(tracker, marked, group, verdict, outs, reports);
-}
-
-// The same, where an input may be tracked.
-fn settle_tracked(
-    tracker: &mut Tracker,
-    marked: &mut Vec<Marked>,
-    group: &Option<GroupRef>,
-    verdict: Verdict,
-    outs: &[Option<Metric>],
-    reports: &mut Vec<Report>,
-)
-    requires tracks { IsTracker tracker.old }
-    requires live { IfSome group.now (λ g. IsLive tracker.old g) }
-    requires few { IfSome group.now (λ g. copies_of tracker.old g + length outs.now < 2 ^ 40) }
-    requires pushed { (output : ℕ) → output < length marked.old.items
-        → (marked_at marked.old.items output).pushed < 2 ^ 63 }
-    requires copies { HasCopies (routed_copies verdict outs.now marked.old.items ++ copy_of false group.now)
-        (held_routed tracker.old group.now verdict outs.now) }
-    requires outputs { (length marked.old.items ≤ length outs.now) × (length outs.now ≤ 16) }
-    requires room { (reports.old.items ≡ []) × (length (routed_copies verdict outs.now marked.old.items
-        ++ copy_of false group.now) ≤ vec_capacity reports.old) }
-    ensures marked { marked.new.items ≡ marked_routed group.now verdict outs.now marked.old.items }
-    ensures held { IsTracker (held_routed tracker.old group.now verdict outs.now) }
-    ensures settled { LetsGo (routed_copies verdict outs.now marked.old.items ++ copy_of false group.now)
-        (held_routed tracker.old group.now verdict outs.now) reports.old.items tracker.new reports.new.items }
-    ensures stands { IsTracker tracker.new }
-{
     match verdict {
         Verdict::Passes => {
             hold(tracker, *group, views_in(outs));

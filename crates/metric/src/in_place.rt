@@ -7,13 +7,13 @@ use std::marker::Model;
 use std::{fmt, str};
 use text_buffer::TextBuffer;
 
-/// The most bytes of a text in place.
+/// The most bytes of a text in place: three words.
 pub(crate) const MOST: usize = 24;
 
 /// A UTF-8 text of at most 24 bytes, in place.
 #[derive(Drop)]
 pub(crate) struct InPlace {
-    /// Its bytes, with zeros behind them.
+    /// Its bytes. (What stands behind them is for speed: zeros.)
     cells: [u8; MOST],
     /// How many bytes it has.
     len: u32,

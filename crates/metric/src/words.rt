@@ -2,13 +2,11 @@
 ghost use Rattle.std.specs.Prelude.{◌≡◌, ◌+◌, ◌-◌, ◌≤◌, ◌<◌, ◌++◌, length, take, drop};
 ghost use Rattle.std.specs.Int.{w64, to_le_bytes, bytes_low_first};
 
+use crate::in_place::MOST;
 use std::simd::Simd;
 
 /// How many bytes a word has.
 const WORD: usize = 8;
-
-/// The bytes of three words.
-const THREE: usize = 24;
 
 // The word of eight bytes that stand at an index, the first one lowest.
 #[inline(always)]
@@ -45,7 +43,7 @@ fn highest(word: u64, count: usize) -> u64
 
 // The bytes of three words, one behind the other.
 #[inline(always)]
-fn row_of(first: u64, second: u64, third: u64) -> [u8; THREE]
+fn row_of(first: u64, second: u64, third: u64) -> [u8; MOST]
     ensures { result ≡ to_le_bytes w64 first ++ (to_le_bytes w64 second ++ to_le_bytes w64 third) }
 {
     let a = first.to_le_bytes();
@@ -57,10 +55,10 @@ fn row_of(first: u64, second: u64, third: u64) -> [u8; THREE]
     ]
 }
 
-// The three words that begin with some bytes. Zeros stand behind these.
+// The three words that begin with some bytes. (What stands behind these is for speed: zeros.)
 #[inline(always)]
 fn words_of(bytes: &[u8]) -> (u64, u64, u64)
-    requires { length bytes.now ≤ THREE }
+    requires { length bytes.now ≤ MOST }
     ensures { take (length bytes.now)
         (to_le_bytes w64 result.0 ++ (to_le_bytes w64 result.1 ++ to_le_bytes w64 result.2)) ≡ bytes.now }
 {
@@ -79,10 +77,10 @@ fn words_of(bytes: &[u8]) -> (u64, u64, u64)
     (first, word_at(bytes, WORD), highest(last, len - 2 * WORD))
 }
 
-/// A row that begins with some bytes. Zeros stand behind them.
+/// A row that begins with some bytes. (What stands behind them is for speed: zeros.)
 #[inline(always)]
-pub(crate) fn row_with(bytes: &[u8]) -> [u8; THREE]
-    requires { length bytes.now ≤ THREE }
+pub(crate) fn row_with(bytes: &[u8]) -> [u8; MOST]
+    requires { length bytes.now ≤ MOST }
     ensures { take (length bytes.now) result ≡ bytes.now }
 {
     let (first, second, third) = words_of(bytes);

@@ -227,7 +227,8 @@ impl TextBuffer {
         Ok(())
     }
 
-    /// Appends the first bytes of others.
+    /// Appends the first bytes of others. `AllocError`, which comes only where fewer than 24 bytes stand ready, leaves
+    /// the text as it was.
     #[inline(always)]
     pub fn extend_from_front(&mut self, bytes: &[u8], count: usize) -> Result<(), AllocError>
         requires { (WINDOW ≤ length bytes.now) × (count ≤ WINDOW) }

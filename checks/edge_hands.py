@@ -307,12 +307,16 @@ def limit_of_files(folder, program):
 
 
 def ended_by(number):
-    """A signal ends the run at once: what was put stays, without a stop, an account or a report."""
+    """A signal ends the run at once: what was put stays, without a stop, an account or a report. The signal is as it is by
+    default, which it isn't where a shell runs the check in the background: there SIGINT is ignored."""
+
+    def as_by_default():
+        signal.signal(number, signal.SIG_DFL)
 
     def run(folder, program):
         lines = numbered_lines(0, 1_500)
         lay(folder, {})
-        started = begin(program, folder, "pipe", "stdin", "out", "100", "10000")
+        started = begin(program, folder, "pipe", "stdin", "out", "100", "10000", preexec_fn=as_by_default)
         os.write(started.stdin.fileno(), lines)
         wait_until(lambda: size_of(folder, "agent.journal") > 0)
         wait_for_input(started, started.stdin.fileno())

@@ -56,16 +56,27 @@ impl SourceCalls {
         let mut text = Vec::new(alloc);
         let mut buf = vec![in alloc; 0u8; self.most]?;
         for _read in 0..1_000_000 {
-            match source.read(&mut buf) {
-                Ok(0) => return Ok(text),
-                Ok(count) => text.extend_from_slice(&buf[..count])?,
-                Err(refused) => text.extend_from_slice(format!(in alloc;
-                    "{refused:?}\n"
-                )?.as_bytes())?,
+            if !read_more(alloc, &mut source, &mut buf, &mut text)? {
+                return Ok(text);
             }
         }
         Err(Fail::new("the source has no end"))
     }
+}
+
+/// Reads a source once, puts what it says behind a text, and says whether more may come.
+fn read_more(
+    alloc: Global,
+    source: &mut StatsdSource<MemDatagrams>,
+    buf: &mut [u8],
+    text: &mut Vec<u8>,
+) -> Result<bool, Fail> {
+    match source.read(buf) {
+        Ok(0) => return Ok(false),
+        Ok(count) => text.extend_from_slice(&buf[..count])?,
+        Err(refused) => text.extend_from_slice(format!(in alloc; "{refused:?}\n")?.as_bytes())?,
+    }
+    Ok(true)
 }
 
 impl Calls for SourceCalls {
